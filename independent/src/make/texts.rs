@@ -548,7 +548,7 @@ fn spoil(chance: &mut Chance, draft: &mut Draft) {
                 statement.splice(end..end, words(form));
             }
         }
-        21..=23 => {
+        21..=24 => {
             // An equation that names itself or another at random.
             let marks: Vec<usize> = (0..draft.statements.len())
                 .filter(|s| draft.statements[*s].get(1).is_some_and(|w| w == ":="))
@@ -558,7 +558,7 @@ fn spoil(chance: &mut Chance, draft: &mut Draft) {
                 draft.statements[s].extend(words(&format!("* {other}")));
             }
         }
-        24..=26 => {
+        25..=26 => {
             let pin = chance.word(&["1", "2", "12", "13", "14", "19", "23", "24", "0 - 1", "5 + 6"]).to_string();
             insert(draft, format!("{any_element} :: {pin}"));
         }
@@ -576,7 +576,7 @@ fn spoil(chance: &mut Chance, draft: &mut Draft) {
 
 /// A wide equation: many pins, many primes.
 fn wide_text(chance: &mut Chance) -> String {
-    let inputs = chance.within(4, 11);
+    let inputs = chance.within(4, 13).min(11);
     let pin = chance.within(14, 23);
     let names: Vec<String> = (0..inputs).map(super::fixed::input_name).collect();
     let mut right = String::new();
@@ -605,8 +605,7 @@ fn wide_text(chance: &mut Chance) -> String {
             }
         }
     }
-    let shape = chance.below(6);
-    let right = match shape {
+    let right = match chance.below(6) {
         0 => format!("REG({right})"),
         1 => format!("~REG({right})"),
         2 => format!("REG(a, {right})"),
@@ -648,20 +647,67 @@ fn deep_text(chance: &mut Chance) -> String {
     wide(2, 20, &format!("{open}b{close}"))
 }
 
+/// Some count near its limit.
+fn limit_text(chance: &mut Chance) -> String {
+    match chance.below(6) {
+        0 => {
+            let count = chance.within(30, 34);
+            let list: String = (0..count).map(|i| format!("c{i} := {}; ", chance.below(70_000))).collect();
+            format!("MODULE T; CONST {list}END T.")
+        }
+        1 => {
+            // Elements in lists of random lengths.
+            let mut lists = String::new();
+            let mut elements = 0;
+            let target = chance.within(58, 70);
+            while elements < target {
+                let length = chance.within(1, 32).min(target - elements);
+                let names = chance.within(1, 2);
+                let list: Vec<String> = (0..names).map(|i| format!("v{elements}x{i}")).collect();
+                lists += &format!("{}: [{length}] BIT; ", list.join(", "));
+                elements += length * names;
+            }
+            format!("MODULE T; {} {lists}END T.", chance.word(&["IN", "OUT", "VAR"]))
+        }
+        2 => {
+            let length = chance.within(14, 18);
+            let name = format!("n{}{}", "x".repeat(length - 1), chance.word(&["", "'"]));
+            format!("MODULE T; IN {name}: BIT; BEGIN {name} :: 5 END T.")
+        }
+        3 => {
+            // Rounds of two levels, with statements in both.
+            let (outer, inner) = (chance.within(60, 66), chance.within(20, 64));
+            let more = chance.word(&["", "y := a", "y := a; y := ~a", ";;", "a :: 2"]);
+            wide(1, 15, &format!("a; FOR k := 1 .. {outer} DO {more}; FOR j := {} .. {} DO {more} END END", inner, 2 * inner))
+        }
+        4 => {
+            // Nodes of one long equation, the last of several kinds.
+            let operators = chance.within(1_015, 1_025);
+            let chain = format!("a{}", chance.word(&["+b", "-a", "*b"]).repeat(operators));
+            let last = chance.word(&["", " + ~a", " + '1", " - (b)", " * MUX(a: b, '0)", " + REG(a, b)", " * ~~~b"]);
+            wide(2, 16, &format!("{chain}{last}"))
+        }
+        _ => {
+            let depth = chance.within(29, 34);
+            let rounds = "FOR k := 0 .. 0 DO ".repeat(depth);
+            wide(2, 17, &format!("a; {rounds} {} {}", chance.word(&["", "y := (a)", "b :: [5]", "q := ~a"]), "END ".repeat(depth)))
+        }
+    }
+}
+
 pub fn record(chance: &mut Chance) -> Record {
     let text = text(chance);
     let call = match chance.below(10) {
         0..=2 => "compile".to_string(),
         3..=6 => "fit".to_string(),
         _ => {
-            let pin = if chance.once_in(12) { chance.below(30) } else { asked_pin(chance, &text) };
-            let number = match chance.below(12) {
-                0 => format!("{}", chance.next()),
-                1 => format!("{}{}", chance.next(), chance.next()),
-                2 => 3usize.pow(chance.below(11) as u32).to_string(),
-                3..=6 => chance.below(27).to_string(),
-                7 | 8 => chance.below(3).to_string(),
-                _ => chance.below(60_000).to_string(),
+            let (pin, products) = asked(chance, &text);
+            let pin = if chance.once_in(14) { chance.below(30) } else { pin };
+            let number = match chance.below(20) {
+                0 => format!("{}{}", chance.next(), if chance.coin() { "" } else { "0000000" }),
+                1 => format!("{}", products + chance.below(3)),
+                2 => format!("{}", products - 1),
+                _ => format!("{}", chance.below(products)),
             };
             format!("ask {pin} {number}")
         }
@@ -669,26 +715,27 @@ pub fn record(chance: &mut Chance) -> Record {
     Record::new(&call, text)
 }
 
-/// An OUT pin of the text if it has any.
-fn asked_pin(chance: &mut Chance, text: &[u8]) -> usize {
-    let pins: Vec<usize> = match crate::cells::design_of(text) {
-        Ok(design) => design.outputs.iter().map(|o| o.pin).collect(),
+/// An OUT pin of the text, if it has any, and how many products its pins have.
+fn asked(chance: &mut Chance, text: &[u8]) -> (usize, usize) {
+    let outs: Vec<(usize, usize)> = match crate::cells::design_of(text) {
+        Ok(design) => design.outputs.iter().map(|o| (o.pin, 3usize.pow(o.pins.len() as u32))).collect(),
         Err(_) => vec![],
     };
-    if pins.is_empty() { chance.within(14, 23) } else { *chance.pick(&pins) }
+    if outs.is_empty() { (chance.within(14, 23), 9) } else { *chance.pick(&outs) }
 }
 
 pub fn text(chance: &mut Chance) -> Vec<u8> {
     match chance.below(100) {
         0..=9 => return wide_text(chance).into_bytes(),
         10..=11 => return deep_text(chance).into_bytes(),
+        12..=14 => return limit_text(chance).into_bytes(),
         _ => {}
     }
     let mut parts = draft(chance);
     match chance.below(20) {
         0..=6 => {}
-        7..=13 => spoil(chance, &mut parts),
-        14..=16 => {
+        7..=14 => spoil(chance, &mut parts),
+        15..=17 => {
             let mut all = spelled(&parts);
             change_words(chance, &mut all);
             return joined(chance, &all);
