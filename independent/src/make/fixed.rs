@@ -15,6 +15,7 @@ pub enum Known {
 
 pub struct Case {
     pub record: Record,
+    #[cfg_attr(not(test), allow(dead_code))]
     pub known: Known,
 }
 
@@ -30,6 +31,12 @@ fn case(number: u32, marked: &str) -> Case {
 
 fn exactly(call: &str, text: &str, answer: &str) -> Case {
     Case { record: Record::new(call, text), known: Known::Exactly(answer.to_string()) }
+}
+
+/// A refusal where a piece of the text first stands.
+fn refused_at(call: &str, text: &str, piece: &str, number: u32) -> Case {
+    let place = text.find(piece).unwrap_or(0);
+    Case { record: Record::new(call, text), known: Known::Refused { number, place } }
 }
 
 /// One input `a` on pin 2, one output `y` on pin 23, and an array `x` of two on pins 3 and 4.
@@ -411,7 +418,7 @@ fn outputs_and_questions() -> Vec<Case> {
         exactly("ask 23 0", "MODULE T; OUT y: BIT; BEGIN y::23; y := '1 END T.", "2\n"),
         exactly("ask 23 0", "MODULE T; OUT y: BIT; BEGIN y::23; y := '0 END T.", "0\n"),
         exactly("ask 23 1", "MODULE T; OUT y: BIT; BEGIN y::23; y := '0 END T.", "14 0\n"),
-        exactly("ask 99 0", &wide(5, 20, "a - b - c - d - e"), "12 44\n").known_place("y: BIT", 12),
+        refused_at("ask 99 0", &wide(5, 20, "a - b - c - d - e"), "y: BIT", 12),
         exactly("fit", "MODULE T; END T.", ""),
         exactly("fit", "MODULE T; OUT y: BIT; BEGIN y::23; y := '0 END T.", "23 C H 0 0\n"),
         exactly("fit", "MODULE T; OUT y: BIT; BEGIN y::23; y := '1 END T.", "23 C H 1 0\n"),
@@ -423,11 +430,11 @@ fn outputs_and_questions() -> Vec<Case> {
         exactly("fit", &wide(9, 23, &joined(9, "+")), "23 C L 1 9\n"),
         exactly("fit", &wide(10, 14, &joined(10, "+")), "14 C L 1 10\n"),
         exactly("fit", &wide(10, 15, &joined(10, "+")), "15 C H 10 10\n"),
-        exactly("fit", &wide(11, 15, &joined(11, "+")), "11 0\n").known_place("y: BIT", 11),
-        exactly("fit", &wide(11, 15, "a * '0 * b * c * d * e * f * g * h * i * j * k"), "").known_place("y: BIT", 11),
+        refused_at("fit", &wide(11, 15, &joined(11, "+")), "y: BIT", 11),
+        refused_at("fit", &wide(11, 15, "a * '0 * b * c * d * e * f * g * h * i * j * k"), "y: BIT", 11),
         exactly("fit", &wide(10, 15, "REG(a*b*c*d*e*f*g*h*i*j)"), "15 R H 1 10\n"),
-        exactly("fit", &wide(10, 15, "REG('1, a*b*c*d*e*f*g*h*i*j)"), "").known_place("y: BIT", 11),
-        exactly("fit", &wide(9, 23, &format!("REG({})", joined(9, "+"))), "").known_place("y: BIT", 12),
+        refused_at("fit", &wide(10, 15, "REG('1, a*b*c*d*e*f*g*h*i*j)"), "y: BIT", 11),
+        refused_at("fit", &wide(9, 23, &format!("REG({})", joined(9, "+"))), "y: BIT", 12),
         exactly("fit", &wide(8, 23, &format!("~REG({})", joined(8, "+"))), "23 R L 8 8\n"),
         exactly("fit", &wide(2, 23, "~REG(a, b)"), "23 R L 3 6\n"),
         exactly("fit", &wide(2, 23, "REG(a, b)"), "23 R H 3 6\n"),
@@ -438,32 +445,22 @@ fn outputs_and_questions() -> Vec<Case> {
     };
     let eleven = joined(11, "*");
     let parity = joined(5, "-");
-    all.push(exactly("fit", &two_outs(&parity, &eleven), "").known_place("y, z: BIT", 12));
-    all.push(exactly("fit", &two_outs(&eleven, &parity), "").known_place("y, z: BIT", 11));
-    all.push(exactly("fit", &two_outs("a", &parity), "").known_place("z: BIT", 12));
+    all.push(refused_at("fit", &two_outs(&parity, &eleven), "y, z: BIT", 12));
+    all.push(refused_at("fit", &two_outs(&eleven, &parity), "y, z: BIT", 11));
+    all.push(refused_at("fit", &two_outs("a", &parity), "z: BIT", 12));
     all.push(exactly("fit", &two_outs("a", "b"), "20 C H 1 1\n23 C H 1 1\n"));
     for pin in 14..=23 {
         all.push(Case {
             record: Record::new("compile", wide(4, pin, "REG(a*b + ~a*c, d - y)")),
             known: Known::Accepted,
         });
-        all.push(Case { record: Record::new("fit", wide(5, pin, &parity)), known: Known::Accepted });
-        if !(18..=19).contains(&pin) {
-            let last = all.pop().map(|case| case.record.payload).unwrap_or_default();
-            let text = String::from_utf8_lossy(&last).into_owned();
-            all.push(exactly("fit", &text, "").known_place("y: BIT", 12));
-        }
+        let text = wide(5, pin, &parity);
+        all.push(match pin {
+            18 | 19 => exactly("fit", &text, &format!("{pin} C H 16 80\n")),
+            _ => refused_at("fit", &text, "y: BIT", 12),
+        });
     }
     all
-}
-
-impl Case {
-    /// A refusal at the first place of a piece.
-    fn known_place(mut self, piece: &str, number: u32) -> Case {
-        let text = String::from_utf8_lossy(&self.record.payload).into_owned();
-        self.known = Known::Refused { number, place: text.find(piece).unwrap_or(0) };
-        self
-    }
 }
 
 fn repeated(piece: &str, count: usize) -> String {
@@ -473,18 +470,15 @@ fn repeated(piece: &str, count: usize) -> String {
 fn limits() -> Vec<Case> {
     let mut all = Vec::new();
     // Nesting: each kind alone, and together.
-    for (open, inside, close) in [("(", "a", ")"), ("~", "a", ""), ("(~", "a", ")")] {
-        if open.len() == 2 {
-            all.push(case(0, &equation(&format!("{}a{}", repeated(open, 16), repeated(close, 16)))));
-            all.push(case(6, &equation(&format!("{}@(a{}", repeated(open, 16), repeated(close, 17)))));
-            continue;
-        }
+    for (open, close) in [("(", ")"), ("~", "")] {
         let right = |depth: usize, mark: &str| {
-            format!("{}{}{}{}{}", repeated(open, depth - 1), mark, open, inside, repeated(close, depth))
+            format!("{}{}{}a{}", repeated(open, depth - 1), mark, open, repeated(close, depth))
         };
         all.push(case(0, &equation(&right(32, ""))));
         all.push(case(6, &equation(&right(33, "@"))));
     }
+    all.push(case(0, &equation(&format!("{}a{}", repeated("(~", 16), repeated(")", 16)))));
+    all.push(case(6, &equation(&format!("{}@(a{}", repeated("(~", 16), repeated(")", 17)))));
     let nested_index = |depth: usize| format!("{}1{}", repeated("(", depth), repeated(")", depth));
     all.push(case(0, &equation(&format!("x[{}]", nested_index(31)))));
     all.push(case(6, &equation(&format!("x[{}@(1{}]", repeated("(", 31), repeated(")", 32)))));
@@ -509,7 +503,7 @@ fn limits() -> Vec<Case> {
     all.push(case(0, &format!("MODULE T; IN z: [{}] BIT; BEGIN z.0::2 END T.", nested_index(31))));
     all.push(case(6, &format!("MODULE T; IN z: [{}@(1{}] BIT; BEGIN z.0::2 END T.", repeated("(", 31), repeated(")", 32))));
 
-    // Names of elements.
+    // Elements.
     all.push(case(7, "MODULE T; VAR @v, w: [32] BIT; END T."));
     all.push(case(6, "MODULE T; VAR v, w: [32] BIT; @u: BIT; END T."));
     all.push(case(6, "MODULE T; VAR v: BIT; u, @w, z: [32] BIT; END T."));

@@ -209,8 +209,24 @@ impl Maker<'_> {
             if self.chance.once_in(6) {
                 body.push(";".to_string());
             }
-            let statement = [words("FOR i :="), from, words(".."), to, words("DO"), body, words("END")].concat();
-            self.draft.statements.push(statement);
+            if self.chance.once_in(8) {
+                // One more round inside, of another variable with the same value.
+                let inner: Words = body.into_iter().map(|w| if w == "i" { "k".to_string() } else { w }).collect();
+                body = [words("FOR k := i .. i DO"), inner, words("END")].concat();
+            }
+            let mut round = [words("FOR i :="), from, words(".."), to, words("DO"), body, words("END")].concat();
+            if self.chance.once_in(6) {
+                // A variable that hides some other name, which may be missed inside.
+                let hidden = match self.chance.below(3) {
+                    0 => self.chance.pick(&self.draft.signals).name.clone(),
+                    1 if !self.draft.constants.is_empty() => self.draft.constants[0].0.clone(),
+                    _ => "k".to_string(),
+                };
+                for word in round.iter_mut().filter(|w| *w == "i") {
+                    *word = hidden.clone();
+                }
+            }
+            self.draft.statements.push(round);
             return;
         }
         // A chain through the array's own earlier elements, if it holds no registers.
@@ -734,7 +750,12 @@ pub fn text(chance: &mut Chance) -> Vec<u8> {
     let mut parts = draft(chance);
     match chance.below(20) {
         0..=6 => {}
-        7..=14 => spoil(chance, &mut parts),
+        7..=14 => {
+            spoil(chance, &mut parts);
+            while chance.once_in(4) {
+                spoil(chance, &mut parts);
+            }
+        }
         15..=17 => {
             let mut all = spelled(&parts);
             change_words(chance, &mut all);
