@@ -5,6 +5,7 @@ use crate::circuit::circuit_of;
 use crate::device::{self, cell_of, judge_map, map_of, model, CELLS, COLUMNS, FUSES, PINS};
 use crate::file;
 use crate::grammar::Class;
+use crate::make::files::{faulty_files, summed};
 use crate::make::fixed::{cases, wide, Known, EXAMPLE, EXAMPLE_FILE};
 use crate::make::{make, refusal_number, texts, Chance};
 use crate::simulation::Simulation;
@@ -17,14 +18,6 @@ fn said(bytes: Vec<u8>) -> String {
 
 fn refused(number: u32, place: usize) -> String {
     format!("{number} {place}\n")
-}
-
-/// A file with the right sum behind it.
-fn summed(content: &[u8]) -> Vec<u8> {
-    let mut bytes = [b"\x02", content, b"\x03"].concat();
-    let sum = file::byte_sum(&bytes);
-    bytes.extend(format!("{sum:04X}").bytes());
-    bytes
 }
 
 fn read(bytes: &[u8]) -> Result<Vec<u8>, (u32, usize)> {
@@ -284,80 +277,9 @@ fn the_reader_takes_other_styles() {
 
 #[test]
 fn the_reader_finds_the_first_fault() {
-    let gives = |content: &[u8], number: u32, place: usize| {
-        assert_eq!(read(&summed(content)), Err((number, place)), "{}", String::from_utf8_lossy(content));
-    };
-    // Byte 2, the heading, fields without a star.
-    assert_eq!(read(b""), Err((20, 0)));
-    assert_eq!(read(b"*QF5892*"), Err((20, 0)));
-    assert_eq!(read(b"\x03"), Err((20, 0)));
-    assert_eq!(read(b"\x02"), Err((20, 1)));
-    assert_eq!(read(b"\x02abc"), Err((20, 4)));
-    assert_eq!(read(b"\x02abc\x03"), Err((20, 1)));
-    assert_eq!(read(b"\x02\x03*"), Err((20, 1)));
-    gives(b"*QF5892*F0*N", 20, 12);
-    gives(b"*QF5892*F0* \r\nN x", 20, 15);
-    // Without byte 3: what has its star is judged, the rest is not.
-    assert_eq!(read(b"\x02*q*L"), Err((20, 2)));
-    assert_eq!(read(b"\x02*QF5891*"), Err((21, 2)));
-    assert_eq!(read(b"\x02*QF5892*L5892 1*"), Err((22, 9)));
-    assert_eq!(read(b"\x02*QF5892*L5892 1"), Err((20, 16)));
-    assert_eq!(read(b"\x02*QF5892*F0*"), Err((20, 12)));
-    // Fields that begin wrongly.
-    for field in [&b"*"[..], b"q*", b"0*", b"\x02*", b"(*", b"\x0bF0*"] {
-        gives(&[b"*QF5892*F0*\n", field].concat(), 20, 13);
+    for (bytes, refusal) in faulty_files() {
+        assert_eq!(read(&bytes), Err(refusal), "{}", String::from_utf8_lossy(&bytes[..bytes.len().min(200)]));
     }
-    for field in [
-        &b"C*"[..], b"C123*", b"C12345*", b"C123G*", b"C 1234*", b"C1234 *", b"F*", b"F2*", b"F00*", b"F 0*", b"F0 *",
-        b"G*", b"G2*", b"G00*", b"G 0*", b"QF*", b"QF 5892*", b"QFx*", b"QF5892 *", b"QP*", b"QP 24*", b"QPx*", b"QP24 *",
-    ] {
-        gives(&[b"*", field, b"QF5892*F0*"].concat(), 20, 2);
-    }
-    for field in [&b"L*"[..], b"L0000*", b"L0000 *", b"L 0000 1*", b"L00001*", b"Lx 1*", b"L0 2*", b"L0 1x*", b"L0\x0b1*", b"L9999 \n*"] {
-        gives(&[b"*QF5892*F0*", field].concat(), 20, 12);
-    }
-    // Order and number of fields.
-    gives(b"*F0*QF5892*", 20, 2);
-    gives(b"*L9999 1*QF5892*F0*", 20, 2);
-    gives(b"*QF5892*F0*F0*", 20, 12);
-    gives(b"*QF5892*L0 1*F0*", 20, 14);
-    gives(b"*QF5892*QF5892*F0*", 20, 9);
-    gives(b"*QF5892*QF1*F0*", 20, 9);
-    gives(b"*QP24*QP25*QF5892*F0*", 20, 7);
-    gives(b"*G0*G1*QF5892*F0*", 20, 5);
-    gives(b"*C0000*C0000*QF5892*F0*", 20, 8);
-    gives(b"*QP25*q*", 21, 2);
-    gives(b"*QF58920*q*", 21, 2);
-    gives(b"*QF99999999999999999999999999*", 21, 2);
-    gives(b"*QF5892*F0*L5891 10*q*", 22, 12);
-    gives(b"*QF5892*F0*L18446744073709551616 1*", 22, 12);
-    gives(b"*QF5892*F0*L5892 1x*", 20, 12);
-    // Missing things, behind every fault, in front of the sums.
-    gives(b"*", 20, 7);
-    gives(b"*C0001*", 20, 13);
-    gives(b"*QF5892*", 20, 14);
-    gives(b"*QF5892*L0000 1*C0000*", 20, 28);
-    // The end.
-    assert_eq!(read(b"\x02*\x03"), Err((20, 3)));
-    assert_eq!(read(b"\x02*\x03002"), Err((20, 6)));
-    assert_eq!(read(b"\x02*\x0300 "), Err((20, 3)));
-    assert_eq!(read(b"\x02*\x03 002F"), Err((20, 3)));
-    assert_eq!(read(b"\x02*\x03002g"), Err((20, 3)));
-    assert_eq!(read(b"\x02*\x03002F \nx"), Err((20, 9)));
-    assert_eq!(read(b"\x02*\x03002F0"), Err((20, 7)));
-    // Byte 3 ends the fields wherever it first stands.
-    assert_eq!(read(b"\x02a\x03b*QF5892*"), Err((20, 1)));
-    assert_eq!(read(b"\x02*QF5892*N\x03*F0*"), Err((20, 9)));
-    // Sums.
-    gives(b"*QF5892*F0*C0001*", 23, 0);
-    let mut bytes = summed(b"*QF5892*F0*C0001*");
-    let last = bytes.len() - 1;
-    bytes[last] ^= 1;
-    assert_eq!(read(&bytes), Err((23, 0)));
-    let mut bytes = summed(b"*QF5892*F0*C0000*");
-    bytes[last] ^= 1;
-    assert_eq!(read(&bytes), Err((24, 0)));
-    // Length.
     let mut long = summed(b"*QF5892*F0*");
     long.resize(65_536, b' ');
     assert!(read(&long).is_ok());

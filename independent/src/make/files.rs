@@ -3,6 +3,7 @@
 use super::{maps, Chance};
 use crate::file::{self, byte_sum, fuse_sum};
 use crate::vectors::Record;
+use std::cell::RefCell;
 
 /// A file in parts. Each field has its star.
 struct Draft {
@@ -267,53 +268,109 @@ pub fn read_record(chance: &mut Chance) -> Record {
     Record::new("read", bytes)
 }
 
-/// Files at the edge of what may be read, and the smallest.
+/// What stands between byte 2 and byte 3, with both and the right sum.
+pub fn summed(content: &[u8]) -> Vec<u8> {
+    let mut bytes = [b"\x02", content, b"\x03"].concat();
+    let sum = byte_sum(&bytes);
+    bytes.extend(format!("{sum:04X}").bytes());
+    bytes
+}
+
+/// Files with one fault or several, and how the first is refused.
+pub fn faulty_files() -> Vec<(Vec<u8>, (u32, usize))> {
+    let all = RefCell::new(Vec::new());
+    let whole = |bytes: &[u8], number: u32, place: usize| all.borrow_mut().push((bytes.to_vec(), (number, place)));
+    let gives = |content: &[u8], number: u32, place: usize| whole(&summed(content), number, place);
+    // Byte 2, the heading, fields without a star.
+    whole(b"", 20, 0);
+    whole(b"*QF5892*", 20, 0);
+    whole(b"\x03", 20, 0);
+    whole(b"\x02", 20, 1);
+    whole(b"\x02abc", 20, 4);
+    whole(b"\x02abc\x03", 20, 1);
+    whole(b"\x02\x03*", 20, 1);
+    gives(b"*QF5892*F0*N", 20, 12);
+    gives(b"*QF5892*F0* \r\nN x", 20, 15);
+    // Without byte 3: what has its star is judged, the rest is not.
+    whole(b"\x02*q*L", 20, 2);
+    whole(b"\x02*QF5891*", 21, 2);
+    whole(b"\x02*QF5892*L5892 1*", 22, 9);
+    whole(b"\x02*QF5892*L5892 1", 20, 16);
+    whole(b"\x02*QF5892*F0*", 20, 12);
+    // Fields that begin wrongly.
+    for field in [&b"*"[..], b"q*", b"0*", b"\x02*", b"(*", b"\x0bF0*"] {
+        gives(&[b"*QF5892*F0*\n", field].concat(), 20, 13);
+    }
+    for field in [
+        &b"C*"[..], b"C123*", b"C12345*", b"C123G*", b"C 1234*", b"C1234 *", b"F*", b"F2*", b"F00*", b"F 0*", b"F0 *",
+        b"G*", b"G2*", b"G00*", b"G 0*", b"QF*", b"QF 5892*", b"QFx*", b"QF5892 *", b"QP*", b"QP 24*", b"QPx*", b"QP24 *",
+    ] {
+        gives(&[b"*", field, b"QF5892*F0*"].concat(), 20, 2);
+    }
+    for field in [&b"L*"[..], b"L0000*", b"L0000 *", b"L 0000 1*", b"L00001*", b"Lx 1*", b"L0 2*", b"L0 1x*", b"L0\x0b1*", b"L9999 \n*"] {
+        gives(&[b"*QF5892*F0*", field].concat(), 20, 12);
+    }
+    // Order and number of fields.
+    gives(b"*F0*QF5892*", 20, 2);
+    gives(b"*L9999 1*QF5892*F0*", 20, 2);
+    gives(b"*QF5892*F0*F0*", 20, 12);
+    gives(b"*QF5892*L0 1*F0*", 20, 14);
+    gives(b"*QF5892*QF5892*F0*", 20, 9);
+    gives(b"*QF5892*QF1*F0*", 20, 9);
+    gives(b"*QP24*QP25*QF5892*F0*", 20, 7);
+    gives(b"*G0*G1*QF5892*F0*", 20, 5);
+    gives(b"*C0000*C0000*QF5892*F0*", 20, 8);
+    gives(b"*QP25*q*", 21, 2);
+    gives(b"*QF58920*q*", 21, 2);
+    gives(b"*QF99999999999999999999999999*", 21, 2);
+    gives(b"*QF5892*F0*L5891 10*q*", 22, 12);
+    gives(b"*QF5892*F0*L18446744073709551616 1*", 22, 12);
+    gives(b"*QF5892*F0*L5892 1x*", 20, 12);
+    // Missing things, behind every fault, in front of the sums.
+    gives(b"*", 20, 7);
+    gives(b"*C0001*", 20, 13);
+    gives(b"*QF5892*", 20, 14);
+    gives(b"*QF5892*L0000 1*C0000*", 20, 28);
+    // The end.
+    whole(b"\x02*\x03", 20, 3);
+    whole(b"\x02*\x03002", 20, 6);
+    whole(b"\x02*\x0300 ", 20, 3);
+    whole(b"\x02*\x03 002F", 20, 3);
+    whole(b"\x02*\x03002g", 20, 3);
+    whole(b"\x02*\x03002F \nx", 20, 9);
+    whole(b"\x02*\x03002F0", 20, 7);
+    // Byte 3 ends the fields wherever it first stands.
+    whole(b"\x02a\x03b*QF5892*", 20, 1);
+    whole(b"\x02*QF5892*N\x03*F0*", 20, 9);
+    // Sums: that of fuses before that of bytes.
+    gives(b"*QF5892*F0*C0001*", 23, 0);
+    for (content, number) in [(&b"*QF5892*F0*C0001*"[..], 23), (b"*QF5892*F0*C0000*", 24), (b"*QF5892*F0*", 24)] {
+        let mut bytes = summed(content);
+        let last = bytes.len() - 1;
+        bytes[last] ^= 1;
+        whole(&bytes, number, 0);
+    }
+    all.into_inner()
+}
+
+/// Files at the edge of what may be read, the smallest, and every known fault.
 pub fn fixed() -> Vec<Record> {
-    let short = |content: &str| {
-        let body = format!("\u{2}{content}\u{3}");
-        format!("{body}{:04X}", byte_sum(body.as_bytes()))
-    };
     let padded = |length: usize| {
-        let text = short("*QF5892*F0*");
-        let blanks = length - text.len();
-        text + &" ".repeat(blanks)
+        let mut bytes = summed(b"*QF5892*F0*");
+        bytes.resize(length, b' ');
+        bytes
     };
-    let all: Vec<String> = vec![
-        "".to_string(),
-        "\u{2}".to_string(),
-        "\u{2}*".to_string(),
-        "\u{3}".to_string(),
-        "\u{2}\u{3}".to_string(),
-        "\u{2}*\u{3}".to_string(),
-        "\u{2}*\u{3}0".to_string(),
-        "\u{2}*\u{3}002D".to_string(),
-        "\u{2}*\u{3}002E".to_string(),
-        "\u{2}*\u{3}0 02F".to_string(),
-        "\u{2}*\u{3}00g".to_string(),
-        "\u{2}*q*".to_string(),
-        "\u{2}*QF5891*".to_string(),
-        "\u{2}*QF5892*L5892 1*".to_string(),
-        "\u{2}*QF5892*L5892 1".to_string(),
-        "\u{2}*QF5892*L5892 1\u{3}".to_string(),
-        short("*"),
-        short("*QF5892*"),
-        short("*QF5892*F0*"),
-        short("*QF5892*F1*"),
-        short("*QF5892*F1*C1234*"),
-        short("*QF5892*F0*C0000*"),
-        short("*QF5892*F0*C0001*"),
-        short("*QF5892*L0000 1*"),
-        short("*C0000*G1*QP24*QF5892*F0*"),
-        short("*L5892 0*QF5892*F0*"),
-        short("*QF5892*QF5891*F0*"),
-        short("*QP24*QP25*QF5892*F0*"),
-        short("*F0*QF5892*"),
-        short("*QF5892*L0000 1*F0*"),
-        short("*QF5892*F1*L0000 0*L0000 1*L0001 0 1\r\n0\t1*C9E5C*"),
-        padded(65_536),
-        padded(65_537),
+    let mut files: Vec<Vec<u8>> = faulty_files().into_iter().map(|(bytes, _)| bytes).collect();
+    let sound = [
+        "*QF5892*F0*",
+        "*QF5892*F1*",
+        "*QF5892*F0*C0000*",
+        "*C0000*G1*QP24*QF5892*F0*",
+        "QF5891\u{2}*QF05892*\tF1*Q*N*L0000 0*L00000 1*L1 0 1\r\n0\t1*",
     ];
-    let mut records: Vec<Record> = all.into_iter().map(|text| Record::new("read", text)).collect();
+    files.extend(sound.iter().map(|content| summed(content.as_bytes())));
+    files.extend([padded(65_536), padded(65_537)]);
+    let mut records: Vec<Record> = files.into_iter().map(|bytes| Record::new("read", bytes)).collect();
     records.push(Record::new("write", ""));
     records.push(Record::new("write", "0".repeat(5_892)));
     records.push(Record::new("write", "1".repeat(5_892) + "\n"));

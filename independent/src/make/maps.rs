@@ -219,3 +219,61 @@ pub fn model_record(chance: &mut Chance) -> Record {
     }
     Record::new("model", payload)
 }
+
+/// One map for each reason to refuse it and each that comes close, and one map with every value.
+pub fn fixed() -> Vec<Record> {
+    let unused = map_of_cells(&[]);
+    let quiet = format!("{} {}\n", "0".repeat(10), "0".repeat(PINS));
+    let mut maps = Vec::new();
+    for number in [RESET_ROW, PRESET_ROW] {
+        let mut map = unused.clone();
+        map[COLUMNS * number + 43] = 1;
+        maps.push(map.clone());
+        set_row(&mut map, number, &[1; COLUMNS]);
+        maps.push(map);
+    }
+    let cell = cell_of(16);
+    let last = cell.enable + cell.products;
+    let s1 = SETTINGS_AT + 2 * cell.number() + 1;
+    let mut mixed = unused.clone();
+    mixed[COLUMNS * cell.enable + 7] = 1;
+    maps.push(mixed);
+    // A product that reads the clock: in an unused cell, an enabled one, a registered one.
+    let mut clocked = unused.clone();
+    set_row(&mut clocked, last, &[1; COLUMNS]);
+    clocked[COLUMNS * last] = 0;
+    maps.push(clocked.clone());
+    let mut registered = clocked.clone();
+    registered[s1] = 0;
+    maps.push(registered);
+    let mut enabled = clocked;
+    set_row(&mut enabled, cell.enable, &[1; COLUMNS]);
+    maps.push(enabled.clone());
+    // Dead, the same product reads nothing.
+    enabled[COLUMNS * last + 1] = 0;
+    maps.push(enabled);
+    // A cell that reads its own pin: combinational, then registered.
+    let mut own = unused.clone();
+    set_row(&mut own, cell.enable, &[1; COLUMNS]);
+    set_row(&mut own, last, &[1; COLUMNS]);
+    own[COLUMNS * last + 2 * pair_of(cell.pin) + 1] = 0;
+    maps.push(own.clone());
+    own[s1] = 0;
+    maps.push(own.clone());
+    let mut records: Vec<Record> = maps
+        .iter()
+        .map(|map| Record::new("model", [digits(map), b"\n".to_vec(), quiet.clone().into_bytes()].concat()))
+        .collect();
+
+    let mut every = digits(&own);
+    every.push(b'\n');
+    for at in (0..quiet.len() - 1).filter(|at| *at != 10) {
+        for value in [b'1', b'2'] {
+            let mut line = quiet.clone().into_bytes();
+            line[at] = value;
+            every.extend(line);
+        }
+    }
+    records.push(Record::new("model", every));
+    records
+}

@@ -2,7 +2,7 @@
 //! same bytes everywhere.
 
 mod batches;
-mod files;
+pub mod files;
 pub mod fixed;
 mod maps;
 pub mod texts;
@@ -73,7 +73,7 @@ pub fn make(kind: &str, seed: u64, count: usize) -> Option<Vec<u8>> {
             }
         }
         "device" => {
-            records.extend(files::fixed().into_iter().take(count));
+            records.extend(files::fixed().into_iter().chain(maps::fixed()).take(count));
             while records.len() < count {
                 records.push(device_record(&mut chance));
             }
@@ -97,8 +97,8 @@ pub fn make(kind: &str, seed: u64, count: usize) -> Option<Vec<u8>> {
 /// Maps are large and files can be small, so most records are files to be read.
 fn device_record(chance: &mut Chance) -> Record {
     match chance.below(1000) {
-        0..=64 => maps::model_record(chance),
-        65..=144 => maps::write_record(chance),
+        0..=59 => maps::model_record(chance),
+        60..=134 => maps::write_record(chance),
         _ => files::read_record(chance),
     }
 }

@@ -741,6 +741,12 @@ fn asked(chance: &mut Chance, text: &[u8]) -> (usize, usize) {
 }
 
 pub fn text(chance: &mut Chance) -> Vec<u8> {
+    if chance.once_in(900) {
+        // Blanks up to the longest text, or past it.
+        let mut text = sound(chance);
+        text.resize(chance.within(32_766, 32_772), b' ');
+        return text;
+    }
     match chance.below(100) {
         0..=9 => return wide_text(chance).into_bytes(),
         10..=11 => return deep_text(chance).into_bytes(),
