@@ -1,0 +1,3 @@
+pub mod Puts
+pub mod Files
+pub mod Weights
