@@ -55,9 +55,9 @@ step N a₀ b₀ fs a b left x y h c ex ey =
       under = omega arith;
       size = length-set (set fs (k * 2) x) (k * 2 + 1) y ∙ l₁ ∙ z;
       says = ap (pairsFrom k (a / 2) (b / 2)) (two fs (k * 2) x y (omega arith) ∙ (λ i. ex i ∷ ey i ∷ drop (e i) fs))
-        ∙ sym (pairs-suc k a b (drop (left * 2) fs))
-        ∙ ap (λ (n : ℕ). pairsFrom n a b (drop (left * 2) fs)) q
-        ∙ c .says;
+          ∙ sym (pairs-suc k a b (drop (left * 2) fs))
+          ∙ ap (λ (n : ℕ). pairsFrom n a b (drop (left * 2) fs)) q
+          ∙ c .says;
     }
 
 pub end : (N a₀ b₀ : ℕ) (fs : List ℕ) (a b left : ℕ) → left ≤ 0 → Filling N a₀ b₀ fs a b left → fs ≡ pairsFrom N a₀ b₀ []
