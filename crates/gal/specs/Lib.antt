@@ -1,0 +1,5 @@
+pub mod Map
+pub mod Refuse
+pub mod Show
+pub mod Clock
+pub mod Model
