@@ -124,7 +124,7 @@ masks-are named n l e =
     ∙ sym (map-map (λ p. mask (spread (bitsOf 22 named) p)) (digits n) l)
     ∙ sym (map-map mask (spread (bitsOf 22 named)) (map (digits n) l))
 
-bits-length : (k m : ℕ) → length (bitsOf k m) ≡ k
+pub bits-length : (k m : ℕ) → length (bitsOf k m) ≡ k
 unfolding bitsOf
 bits-length zero m = refl
 bits-length (suc k) m = ap suc (bits-length k (m / 2))
