@@ -1,1 +1,5 @@
 pub mod Meets
+pub mod Emitted
+pub mod Chosen
+pub mod Sum
+pub mod Within

@@ -36,7 +36,7 @@ lowest d p =
 
 -- ---- the row of a product's mask is the product's row
 
-push : Digit → List ℕ → List ℕ
+unfoldable pub push : Digit → List ℕ → List ℕ
 push d fs = plainFuse (true-bit (factor d)) (true-bit (wanted-bit d)) ∷ inverseFuse (true-bit (factor d)) (true-bit (wanted-bit d)) ∷ fs
 
 pairs-cons : (k a b x y : ℕ) (d : Digit) (fs : List ℕ) → a % 2 ≡ factor d → a / 2 ≡ x → b % 2 ≡ wanted-bit d → b / 2 ≡ y → pairsFrom (suc k) a b fs ≡ pairsFrom k x y (push d fs)
@@ -44,7 +44,7 @@ unfolding pairsFrom push
 pairs-cons k a b x y d fs pa pb pc pd =
     λ i. pairsFrom k (pb i) (pd i) (plainFuse (true-bit (pa i)) (true-bit (pc i)) ∷ inverseFuse (true-bit (pa i)) (true-bit (pc i)) ∷ fs)
 
-push-columns : (d : Digit) (p : List Digit) (fs : List ℕ) → columns (push d fs) p ≡ columns fs (d ∷ p)
+pub push-columns : (d : Digit) (p : List Digit) (fs : List ℕ) → columns (push d fs) p ≡ columns fs (d ∷ p)
 unfolding columns push wanted-bit
 push-columns off p fs = refl
 push-columns on p fs = refl
