@@ -3,3 +3,4 @@ pub mod Emitted
 pub mod Chosen
 pub mod Sum
 pub mod Within
+pub mod Behaves
