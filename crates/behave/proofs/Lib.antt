@@ -4,3 +4,4 @@ pub mod Chosen
 pub mod Sum
 pub mod Within
 pub mod Behaves
+pub mod Counted
