@@ -31,7 +31,7 @@ use Rattle.behave.proofs.Sum.{total-is}
 use Rattle.behave.proofs.Within.{choice, is-map, inside-model}
 
 -- a register's cell is in use
-held-used : (k : Kind) → holds k ≡ true → inUse k ≡ true
+pub held-used : (k : Kind) → holds k ≡ true → inUse k ≡ true
 held-used unused e = e
 held-used combinational e = refl
 held-used register e = refl
@@ -58,10 +58,10 @@ turn false named f t = twice (over named f t)
     twice false = refl
 
 module _ (c : Circuit) (all : List (List ℕ)) (counts kinds s0s : List ℕ) (w : Fits c all counts kinds s0s) where
-  held-is : (k : ℕ) → k < 10 → registered (mapOf all counts kinds s0s) k ≡ holds (c .kind k)
+  pub held-is : (k : ℕ) → k < 10 → registered (mapOf all counts kinds s0s) k ≡ holds (c .kind k)
   held-is k h = registered-is all counts kinds s0s k h ∙ clocked-is kinds k (c .kind k) (w .kinds-are k h)
 
-  use-is : (k : ℕ) → k < 10 → enabled (mapOf all counts kinds s0s) k ≡ inUse (c .kind k)
+  pub use-is : (k : ℕ) → k < 10 → enabled (mapOf all counts kinds s0s) k ≡ inUse (c .kind k)
   use-is k h = enabled-is all counts kinds s0s k h ∙ used-is kinds k (c .kind k) (w .kinds-are k h)
 
   -- ---- signals
@@ -81,7 +81,7 @@ module _ (c : Circuit) (all : List (List ℕ)) (counts kinds s0s : List ℕ) (w 
 
   -- ---- one cell
 
-  sum-is : (k : ℕ) → k < 10 → inUse (c .kind k) ≡ true → (sig : List ℕ) → length sig ≡ 22
+  pub sum-is : (k : ℕ) → k < 10 → inUse (c .kind k) ≡ true → (sig : List ℕ) → length sig ≡ 22
       → total (mapOf all counts kinds s0s) k sig ≡ over (c .named k) (inRows (holds (c .kind k)) (on (getD s0s k 0)) (c .function k)) (settingOf sig)
   sum-is k h u sig z =
       total-is all counts kinds s0s k h (holds (c .kind k)) (c .start k) (c .named k) (c .function k) (used-is kinds k (c .kind k) (w .kinds-are k h) ∙ u) (choice c all counts kinds s0s w k h u) sig z

@@ -150,7 +150,7 @@ module _ (all : List (List ℕ)) (counts kinds s0s : List ℕ) where
       let z : enableOf k + a - enableOf k ≡ a = omega arith in
       let e = cell-of k a h l in
       (λ i. pick (x i || y i) (replicate 44 0)
-        (cellRow (used kinds (cellAt (enableOf k + a))) (getD counts (cellAt (enableOf k + a)) 0) (getD all (cellAt (enableOf k + a)) []) (enableOf k + a - enableOf (cellAt (enableOf k + a)))))
+      (cellRow (used kinds (cellAt (enableOf k + a))) (getD counts (cellAt (enableOf k + a)) 0) (getD all (cellAt (enableOf k + a)) []) (enableOf k + a - enableOf (cellAt (enableOf k + a)))))
       ∙ ap (λ (j : ℕ). cellRow (used kinds j) (getD counts j 0) (getD all j []) (enableOf k + a - enableOf j)) e
       ∙ ap (cellRow (used kinds k) (getD counts k 0) (getD all k [])) z
 

@@ -5,3 +5,4 @@ pub mod Sum
 pub mod Within
 pub mod Behaves
 pub mod Counted
+pub mod Canon

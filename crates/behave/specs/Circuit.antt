@@ -94,3 +94,9 @@ answerOf c bits s =
       values = listed (λ i. bit (valueOf c bits s (i + 1))) 24;
       next = listed (λ b. bit (nextOf c s b)) 10;
     }
+
+-- ---- two circuits are the same: equal kinds, registers that start alike, and functions that agree at every setting of all variables
+pub record Same (c d : Circuit) : Type 0 where
+  pub kinds : (k : ℕ) → k < 10 → c .kind k ≡ d .kind k
+  pub starts : (k : ℕ) → k < 10 → holds (c .kind k) ≡ true → c .start k ≡ d .start k
+  pub functions : (k : ℕ) → k < 10 → inUse (c .kind k) ≡ true → (s : List Bool) → length s ≡ 22 → value c k s ≡ value d k s
