@@ -68,10 +68,10 @@ fn within(k: usize, ok: bool, n: usize) -> bool
 fn own_s0(registered: bool, s0: bool) -> bool
     ensures { λ r. ⌜ r ≡ pick registered s0 true ⌝ }
 {
-    if registered {
-        return s0;
+    if !registered {
+        return true;
     }
-    true
+    s0
 }
 
 // Cell k with S0 = 0 and the primes of not f, if they fit; g is for the table of not f.
