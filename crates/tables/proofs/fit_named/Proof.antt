@@ -1,3 +1,5 @@
+-- `tables::fit_named` meets its contract.
+-- Assumes nothing.
 use lib.Seq.{length-take-le}
 use native.Mathlib.Omega.{arith}
 use mathlib.Core.Path.{_≡_, sym, _∙_}

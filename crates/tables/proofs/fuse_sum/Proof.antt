@@ -1,3 +1,5 @@
+-- `tables::fuse_sum` meets its contract.
+-- Assumes nothing.
 use lib.ListN.{length}
 use Prim.Native.Nat.{_-_, _<_, _≤_}
 use borrow.Author.Needs.{needs}
