@@ -360,12 +360,17 @@ fn fit_table(
     fit_named(k, registered, s0, table, room, named)
 }
 
+// A table of ten variables.
+fn blank_table() -> [u8; 1024] {
+    [0; 1024]
+}
+
 // The cell of the line at i.
 fn fit_line(text: &[u8], i: usize, shown: &[u8; 10], room: &mut [u8]) -> Fitted {
     let mut places = [0u8; 22];
     let mut flips = [0u8; 22];
     let from = names(text, ahead(text, i, 7), shown, &mut places, &mut flips);
-    let mut table = [0u8; 1024];
+    let mut table = blank_table();
     build(text, from, &places, &flips, &mut table);
     let k = cell(number(text, i));
     let registered = kind(text, i) == 2;
