@@ -1,14 +1,14 @@
--- `tables::fuse_sum` meets its contract.
+-- `fit_tables::fuse_sum` meets its contract.
 -- Assumes nothing.
 use lib.ListN.{length}
 use Prim.Native.Nat.{_-_, _<_, _≤_}
 use borrow.Author.Needs.{needs}
 use native.Mathlib.Omega.{arith}
-use Rattle.tables.proofs.fuse_sum.Statement.{statement}
-use Rattle.tables.proofs.fuse_sum.Tie as tie
-use Rattle.tables.proofs.fuse_sum.Reads as reads
-use Rattle.tables.proofs.fuse_sum.Lts as lts
-use Rattle.tables.proofs.fuse_weight.Reads as fuse-weight-reads
+use Rattle.fit_tables.proofs.fuse_sum.Statement.{statement}
+use Rattle.fit_tables.proofs.fuse_sum.Tie as tie
+use Rattle.fit_tables.proofs.fuse_sum.Reads as reads
+use Rattle.fit_tables.proofs.fuse_sum.Lts as lts
+use Rattle.fit_tables.proofs.fuse_weight.Reads as fuse-weight-reads
 
 abbrev Inv-loop : tie.InvT-loop
 Inv-loop map sum₀ i₀ sum i = sum < 65536

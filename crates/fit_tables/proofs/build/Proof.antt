@@ -1,15 +1,15 @@
--- `tables::build` meets its contract.
+-- `fit_tables::build` meets its contract.
 -- Assumes nothing.
 use Prim.Native.Nat.{_-_, _<_, _≤_}
 use borrow.Author.Needs.{needs}
 use native.Mathlib.Omega.{arith}
-use Rattle.tables.proofs.build.Statement.{statement}
-use Rattle.tables.proofs.build.Tie as tie
-use Rattle.tables.proofs.build.Reads as reads
-use Rattle.tables.proofs.build.Lts as lts
-use Rattle.tables.proofs.ahead.Reads as ahead-reads
-use Rattle.tables.proofs.at.Reads as at-reads
-use Rattle.tables.proofs.setting.Reads as setting-reads
+use Rattle.fit_tables.proofs.build.Statement.{statement}
+use Rattle.fit_tables.proofs.build.Tie as tie
+use Rattle.fit_tables.proofs.build.Reads as reads
+use Rattle.fit_tables.proofs.build.Lts as lts
+use Rattle.fit_tables.proofs.ahead.Reads as ahead-reads
+use Rattle.fit_tables.proofs.at.Reads as at-reads
+use Rattle.fit_tables.proofs.setting.Reads as setting-reads
 
 abbrev Inv-loop : tie.InvT-loop
 Inv-loop text from places flips table₀ s₀ table s = Unit {0}

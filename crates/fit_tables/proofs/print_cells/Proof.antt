@@ -1,14 +1,14 @@
--- `tables::print_cells` meets its contract.
+-- `fit_tables::print_cells` meets its contract.
 -- Assumes nothing.
 use Prim.Native.Nat.{_-_, _<_, _≤_}
 use borrow.Author.Needs.{needs}
 use native.Mathlib.Omega.{arith}
-use Rattle.tables.proofs.print_cells.Statement.{statement}
-use Rattle.tables.proofs.print_cells.Tie as tie
-use Rattle.tables.proofs.print_cells.Reads as reads
-use Rattle.tables.proofs.print_cells.Lts as lts
-use Rattle.tables.proofs.print_cell.Reads as print-cell-reads
-use Rattle.tables.proofs.wide.Reads as wide-reads
+use Rattle.fit_tables.proofs.print_cells.Statement.{statement}
+use Rattle.fit_tables.proofs.print_cells.Tie as tie
+use Rattle.fit_tables.proofs.print_cells.Reads as reads
+use Rattle.fit_tables.proofs.print_cells.Lts as lts
+use Rattle.fit_tables.proofs.print_cell.Reads as print-cell-reads
+use Rattle.fit_tables.proofs.wide.Reads as wide-reads
 
 abbrev Inv-loop : tie.InvT-loop
 Inv-loop all counts kinds s0s j₀ j = Unit {0}

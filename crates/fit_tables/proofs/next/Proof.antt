@@ -1,13 +1,13 @@
--- `tables::next` meets its contract.
+-- `fit_tables::next` meets its contract.
 -- Assumes nothing.
 use lib.ListN.{length}
 use Prim.Native.Nat.{_-_, _<_, _≤_}
 use borrow.Author.Needs.{needs}
 use native.Mathlib.Omega.{arith}
-use Rattle.tables.proofs.next.Statement.{statement}
-use Rattle.tables.proofs.next.Tie as tie
-use Rattle.tables.proofs.next.Reads as reads
-use Rattle.tables.proofs.next.Lts as lts
+use Rattle.fit_tables.proofs.next.Statement.{statement}
+use Rattle.fit_tables.proofs.next.Tie as tie
+use Rattle.fit_tables.proofs.next.Reads as reads
+use Rattle.fit_tables.proofs.next.Lts as lts
 
 abbrev Inv-loop : tie.InvT-loop
 Inv-loop text from i₀ i = Unit {0}

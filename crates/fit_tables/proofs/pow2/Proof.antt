@@ -1,4 +1,4 @@
--- `tables::pow2` meets its contract: the table's rule is one test at each entry, which is computed.
+-- `fit_tables::pow2` meets its contract: the table's rule is one test at each entry, which is computed.
 -- Assumes nothing.
 use mathlib.Core.Path.{_≡_, refl}
 use mathlib.Core.Bool.{Bool, true}
@@ -10,10 +10,10 @@ use Rattle.basics.specs.Below.{allBelow}
 use Rattle.basics.proofs.Folds.{all-at}
 use Rattle.basics.proofs.Truth.{of-true}
 use borrow.Author.Needs.{needs}
-use Rattle.tables.proofs.pow2.Statement.{statement}
-use Rattle.tables.proofs.pow2.Tie as tie
-use Rattle.tables.proofs.pow2.Reads as reads
-use Rattle.tables.proofs.pow2.Lts as lts
+use Rattle.fit_tables.proofs.pow2.Statement.{statement}
+use Rattle.fit_tables.proofs.pow2.Tie as tie
+use Rattle.fit_tables.proofs.pow2.Reads as reads
+use Rattle.fit_tables.proofs.pow2.Lts as lts
 
 entries : List ℕ
 entries = 1 ∷ 2 ∷ 4 ∷ 8 ∷ 16 ∷ 32 ∷ 64 ∷ 128 ∷ 256 ∷ 512 ∷ 1024 ∷ []

@@ -1,17 +1,17 @@
--- `tables::survey` meets its contract.
+-- `fit_tables::survey` meets its contract.
 -- Assumes nothing.
 use Prim.Native.Nat.{_-_, _<_, _≤_}
 use borrow.Author.Needs.{needs}
 use native.Mathlib.Omega.{arith}
-use Rattle.tables.proofs.survey.Statement.{statement}
-use Rattle.tables.proofs.survey.Tie as tie
-use Rattle.tables.proofs.survey.Reads as reads
-use Rattle.tables.proofs.survey.Lts as lts
-use Rattle.tables.proofs.cell.Reads as cell-reads
-use Rattle.tables.proofs.kind.Reads as kind-reads
-use Rattle.tables.proofs.next.Reads as next-reads
-use Rattle.tables.proofs.number.Reads as number-reads
-use Rattle.tables.proofs.polarity.Reads as polarity-reads
+use Rattle.fit_tables.proofs.survey.Statement.{statement}
+use Rattle.fit_tables.proofs.survey.Tie as tie
+use Rattle.fit_tables.proofs.survey.Reads as reads
+use Rattle.fit_tables.proofs.survey.Lts as lts
+use Rattle.fit_tables.proofs.cell.Reads as cell-reads
+use Rattle.fit_tables.proofs.kind.Reads as kind-reads
+use Rattle.fit_tables.proofs.next.Reads as next-reads
+use Rattle.fit_tables.proofs.number.Reads as number-reads
+use Rattle.fit_tables.proofs.polarity.Reads as polarity-reads
 
 abbrev Inv-loop : tie.InvT-loop
 Inv-loop text from n kinds₀ shown₀ i₀ turn₀ kinds shown i turn = Unit {0}

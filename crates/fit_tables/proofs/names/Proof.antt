@@ -1,18 +1,18 @@
--- `tables::names` meets its contract.
+-- `fit_tables::names` meets its contract.
 -- Assumes nothing.
 use Prim.Native.Nat.{_-_, _<_, _≤_}
 use borrow.Author.Needs.{needs}
 use native.Mathlib.Omega.{arith}
-use Rattle.tables.proofs.names.Statement.{statement}
-use Rattle.tables.proofs.names.Tie as tie
-use Rattle.tables.proofs.names.Reads as reads
-use Rattle.tables.proofs.names.Lts as lts
-use Rattle.tables.proofs.ahead.Reads as ahead-reads
-use Rattle.tables.proofs.at.Reads as at-reads
-use Rattle.tables.proofs.digits.Reads as digits-reads
-use Rattle.tables.proofs.flip.Reads as flip-reads
-use Rattle.tables.proofs.number.Reads as number-reads
-use Rattle.tables.proofs.variable.Reads as variable-reads
+use Rattle.fit_tables.proofs.names.Statement.{statement}
+use Rattle.fit_tables.proofs.names.Tie as tie
+use Rattle.fit_tables.proofs.names.Reads as reads
+use Rattle.fit_tables.proofs.names.Lts as lts
+use Rattle.fit_tables.proofs.ahead.Reads as ahead-reads
+use Rattle.fit_tables.proofs.at.Reads as at-reads
+use Rattle.fit_tables.proofs.digits.Reads as digits-reads
+use Rattle.fit_tables.proofs.flip.Reads as flip-reads
+use Rattle.fit_tables.proofs.number.Reads as number-reads
+use Rattle.fit_tables.proofs.variable.Reads as variable-reads
 
 abbrev Inv-loop : tie.InvT-loop
 Inv-loop text from shown places₀ flips₀ i₀ turn₀ places flips i turn = Unit {0}

@@ -1,13 +1,13 @@
--- `tables::setting` meets its contract.
+-- `fit_tables::setting` meets its contract.
 -- Assumes nothing.
 use Prim.Native.Nat.{_-_, _<_, _≤_}
 use borrow.Author.Needs.{needs}
 use native.Mathlib.Omega.{arith}
-use Rattle.tables.proofs.setting.Statement.{statement}
-use Rattle.tables.proofs.setting.Tie as tie
-use Rattle.tables.proofs.setting.Reads as reads
-use Rattle.tables.proofs.setting.Lts as lts
-use Rattle.tables.proofs.weight.Reads as weight-reads
+use Rattle.fit_tables.proofs.setting.Statement.{statement}
+use Rattle.fit_tables.proofs.setting.Tie as tie
+use Rattle.fit_tables.proofs.setting.Reads as reads
+use Rattle.fit_tables.proofs.setting.Lts as lts
+use Rattle.fit_tables.proofs.weight.Reads as weight-reads
 
 abbrev Inv-loop : tie.InvT-loop
 Inv-loop places flips s left₀ sum₀ v₀ left sum v = sum < 1024

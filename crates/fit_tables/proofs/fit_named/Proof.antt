@@ -1,17 +1,17 @@
--- `tables::fit_named` meets its contract.
+-- `fit_tables::fit_named` meets its contract.
 -- Assumes nothing.
 use lib.Seq.{length-take-le}
 use native.Mathlib.Omega.{arith}
 use mathlib.Core.Path.{_≡_, sym, _∙_}
 use borrow.Author.Needs.{needs}
-use Rattle.tables.proofs.fit_named.Statement.{statement}
-use Rattle.tables.proofs.fit_named.Tie as tie
-use Rattle.tables.proofs.fit_named.Reads as reads
-use Rattle.tables.proofs.fit_named.Lts as lts
+use Rattle.fit_tables.proofs.fit_named.Statement.{statement}
+use Rattle.fit_tables.proofs.fit_named.Tie as tie
+use Rattle.fit_tables.proofs.fit_named.Reads as reads
+use Rattle.fit_tables.proofs.fit_named.Lts as lts
 use Rattle.cover.proofs.width.Reads as width-reads
 use Rattle.fit.proofs.fit_cell.Reads as fit-cell-reads
-use Rattle.tables.proofs.none.Reads as none-reads
-use Rattle.tables.proofs.pow2.Reads as pow2-reads
+use Rattle.fit_tables.proofs.none.Reads as none-reads
+use Rattle.fit_tables.proofs.pow2.Reads as pow2-reads
 
 -- src/main.rt:335:9
 width-requires : tie.Need-width-requires

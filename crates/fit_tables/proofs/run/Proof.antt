@@ -1,15 +1,15 @@
--- `tables::run` meets its contract.
+-- `fit_tables::run` meets its contract.
 -- Assumes nothing.
 use mathlib.Core.Path.{_≡_, refl, sym, _∙_}
 use lib.ListN.{length}
 use Prim.Native.Nat.{_-_, _<_, _≤_}
 use borrow.Author.Needs.{needs}
 use native.Mathlib.Omega.{arith}
-use Rattle.tables.proofs.run.Statement.{statement}
-use Rattle.tables.proofs.run.Tie as tie
-use Rattle.tables.proofs.run.Reads as reads
-use Rattle.tables.proofs.run.Lts as lts
-use Rattle.tables.proofs.batch.Reads as batch-reads
+use Rattle.fit_tables.proofs.run.Statement.{statement}
+use Rattle.fit_tables.proofs.run.Tie as tie
+use Rattle.fit_tables.proofs.run.Reads as reads
+use Rattle.fit_tables.proofs.run.Lts as lts
+use Rattle.fit_tables.proofs.batch.Reads as batch-reads
 
 abbrev Inv-loop : tie.InvT-loop
 Inv-loop text room₀ i₀ room i = length room ≡ length room₀

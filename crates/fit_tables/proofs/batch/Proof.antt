@@ -1,25 +1,25 @@
--- `tables::batch` meets its contract.
+-- `fit_tables::batch` meets its contract.
 -- Assumes nothing.
 use mathlib.Core.Path.{_≡_, refl, sym, _∙_}
 use lib.ListN.{length}
 use Prim.Native.Nat.{_-_, _<_, _≤_}
 use borrow.Author.Needs.{needs}
 use native.Mathlib.Omega.{arith}
-use Rattle.tables.proofs.batch.Statement.{statement}
-use Rattle.tables.proofs.batch.Tie as tie
-use Rattle.tables.proofs.batch.Reads as reads
-use Rattle.tables.proofs.batch.Lts as lts
+use Rattle.fit_tables.proofs.batch.Statement.{statement}
+use Rattle.fit_tables.proofs.batch.Tie as tie
+use Rattle.fit_tables.proofs.batch.Reads as reads
+use Rattle.fit_tables.proofs.batch.Lts as lts
 use Rattle.basics.proofs.byte_of.Reads as byte-of-reads
-use Rattle.tables.proofs.cell.Reads as cell-reads
-use Rattle.tables.proofs.fit_line.Reads as fit-line-reads
-use Rattle.tables.proofs.lines.Reads as lines-reads
-use Rattle.tables.proofs.next.Reads as next-reads
-use Rattle.tables.proofs.number.Reads as number-reads
-use Rattle.tables.proofs.print_cells.Reads as print-cells-reads
-use Rattle.tables.proofs.print_map.Reads as print-map-reads
-use Rattle.tables.proofs.print_refusal.Reads as print-refusal-reads
-use Rattle.tables.proofs.skip.Reads as skip-reads
-use Rattle.tables.proofs.survey.Reads as survey-reads
+use Rattle.fit_tables.proofs.cell.Reads as cell-reads
+use Rattle.fit_tables.proofs.fit_line.Reads as fit-line-reads
+use Rattle.fit_tables.proofs.lines.Reads as lines-reads
+use Rattle.fit_tables.proofs.next.Reads as next-reads
+use Rattle.fit_tables.proofs.number.Reads as number-reads
+use Rattle.fit_tables.proofs.print_cells.Reads as print-cells-reads
+use Rattle.fit_tables.proofs.print_map.Reads as print-map-reads
+use Rattle.fit_tables.proofs.print_refusal.Reads as print-refusal-reads
+use Rattle.fit_tables.proofs.skip.Reads as skip-reads
+use Rattle.fit_tables.proofs.survey.Reads as survey-reads
 
 abbrev Inv-loop : tie.InvT-loop
 Inv-loop text from room₀ n behind kinds shown all₀ counts₀ s0s₀ i₀ turn₀ room all counts s0s i turn =

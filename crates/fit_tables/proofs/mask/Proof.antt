@@ -1,12 +1,12 @@
--- `tables::mask` meets its contract.
+-- `fit_tables::mask` meets its contract.
 -- Assumes nothing.
 use Prim.Native.Nat.{_-_, _<_, _≤_}
 use borrow.Author.Needs.{needs}
 use native.Mathlib.Omega.{arith}
-use Rattle.tables.proofs.mask.Statement.{statement}
-use Rattle.tables.proofs.mask.Tie as tie
-use Rattle.tables.proofs.mask.Reads as reads
-use Rattle.tables.proofs.mask.Lts as lts
+use Rattle.fit_tables.proofs.mask.Statement.{statement}
+use Rattle.fit_tables.proofs.mask.Tie as tie
+use Rattle.fit_tables.proofs.mask.Reads as reads
+use Rattle.fit_tables.proofs.mask.Lts as lts
 
 abbrev Inv-loop : tie.InvT-loop
 Inv-loop places m₀ v₀ m v = Unit {0}

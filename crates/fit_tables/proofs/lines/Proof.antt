@@ -1,14 +1,14 @@
--- `tables::lines` meets its contract.
+-- `fit_tables::lines` meets its contract.
 -- Assumes nothing.
 use Prim.Native.Nat.{_-_, _<_, _≤_}
 use borrow.Author.Needs.{needs}
 use native.Mathlib.Omega.{arith}
-use Rattle.tables.proofs.lines.Statement.{statement}
-use Rattle.tables.proofs.lines.Tie as tie
-use Rattle.tables.proofs.lines.Reads as reads
-use Rattle.tables.proofs.lines.Lts as lts
-use Rattle.tables.proofs.at.Reads as at-reads
-use Rattle.tables.proofs.next.Reads as next-reads
+use Rattle.fit_tables.proofs.lines.Statement.{statement}
+use Rattle.fit_tables.proofs.lines.Tie as tie
+use Rattle.fit_tables.proofs.lines.Reads as reads
+use Rattle.fit_tables.proofs.lines.Lts as lts
+use Rattle.fit_tables.proofs.at.Reads as at-reads
+use Rattle.fit_tables.proofs.next.Reads as next-reads
 
 abbrev Inv-loop : tie.InvT-loop
 Inv-loop text from i₀ turn₀ i turn = Unit {0}

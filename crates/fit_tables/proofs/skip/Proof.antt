@@ -1,13 +1,13 @@
--- `tables::skip` meets its contract.
+-- `fit_tables::skip` meets its contract.
 -- Assumes nothing.
 use Prim.Native.Nat.{_-_, _<_, _≤_}
 use borrow.Author.Needs.{needs}
 use native.Mathlib.Omega.{arith}
-use Rattle.tables.proofs.skip.Statement.{statement}
-use Rattle.tables.proofs.skip.Tie as tie
-use Rattle.tables.proofs.skip.Reads as reads
-use Rattle.tables.proofs.skip.Lts as lts
-use Rattle.tables.proofs.next.Reads as next-reads
+use Rattle.fit_tables.proofs.skip.Statement.{statement}
+use Rattle.fit_tables.proofs.skip.Tie as tie
+use Rattle.fit_tables.proofs.skip.Reads as reads
+use Rattle.fit_tables.proofs.skip.Lts as lts
+use Rattle.fit_tables.proofs.next.Reads as next-reads
 
 abbrev Inv-loop : tie.InvT-loop
 Inv-loop text from n i₀ turn₀ i turn = Unit {0}
