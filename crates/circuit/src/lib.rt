@@ -38,11 +38,12 @@ fn is_misassigned(parts: &[u32], i: usize) -> bool
     if c == 1 {
         return is_not(n, 0);
     }
+    let fault = is_not(n, 1);
     if c == 2 {
-        return is_not(n, 1);
+        return fault;
     }
     if c == 3 {
-        return is_not(n, 1);
+        return fault;
     }
     false
 }
@@ -270,19 +271,31 @@ pub fn judge_all(parts: &[u32]) -> Judgement
 {
     let a = first_misassigned(parts);
     if a < 64 {
-        return Judgement::Refused { number: 7, place: place_of(parts, a) };
+        return Judgement::Refused {
+            number: 7,
+            place: place_of(parts, a),
+        };
     }
     let b = first_misplaced(parts);
     if b < 64 {
-        return Judgement::Refused { number: 8, place: place_of(parts, b) };
+        return Judgement::Refused {
+            number: 8,
+            place: place_of(parts, b),
+        };
     }
     let c = first_looped(parts);
     if c < 64 {
-        return Judgement::Refused { number: 9, place: place_of(parts, c) };
+        return Judgement::Refused {
+            number: 9,
+            place: place_of(parts, c),
+        };
     }
     let d = first_mispositioned(parts);
     if d < 64 {
-        return Judgement::Refused { number: 10, place: place_of(parts, d) };
+        return Judgement::Refused {
+            number: 10,
+            place: place_of(parts, d),
+        };
     }
     Judgement::Fine
 }
