@@ -4,3 +4,4 @@ pub mod Ranking
 pub mod Settling
 pub mod Ordering
 pub mod Whole
+pub mod Marked

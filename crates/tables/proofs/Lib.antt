@@ -2,3 +2,4 @@ pub mod Setting
 pub mod Values
 pub mod Filling
 pub mod Tabling
+pub mod Marked
