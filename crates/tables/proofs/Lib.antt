@@ -3,3 +3,4 @@ pub mod Values
 pub mod Filling
 pub mod Tabling
 pub mod Marked
+pub mod Reading
