@@ -4,6 +4,7 @@ use mathlib.Core.Bool.{Bool, true, false, not, _&&_, _||_}
 use Prim.Native.Nat.{ℕ, zero, suc}
 use lib.Dec.{eqb, ltb}
 use Rattle.basics.specs.Choice.{pick}
+use Rattle.basics.specs.Below.{anyBelow}
 use Rattle.trees.specs.Layout.{Elements}
 use Rattle.reach.specs.Meeting.{meets}
 use Rattle.circuit.specs.Placed.{plainN, placedN}
@@ -24,13 +25,18 @@ misplaced e i = pick (eqb (e .class i) 2) (not (placedN (e .nodes i))) (pick (eq
 abbrev pub looped : Elements → ℕ → Bool
 looped e i = meets e i i
 
--- 10: a VAR has no position; an IN and an OUT have one, of right count, at a pin of their class that is given once
+-- another IN or OUT stands at the pin of element i
+abbrev pub standsBeside : Elements → ℕ → ℕ → Bool
+standsBeside e i j = not (eqb j i) && (eqb (e .pin j) (e .pin i) && (eqb (e .class j) 1 || eqb (e .class j) 2))
+
+-- 10: a VAR has no position; an IN and an OUT have one, of right count, at a pin of their class that is given once, and so to no other
 unfoldable pub positionedRight : Elements → ℕ → Bool
 positionedRight e i =
     pick (not (eqb (e .positioned i) 1)) false
     (pick (e .miscounted i) false
     (pick (not (eqb (roleOf (e .pin i)) (e .class i))) false
-    (eqb (e .given (e .pin i)) 1)))
+    (pick (anyBelow (standsBeside e i) 64) false
+    (eqb (e .given (e .pin i)) 1))))
 
 unfoldable pub mispositioned : Elements → ℕ → Bool
 mispositioned e i =

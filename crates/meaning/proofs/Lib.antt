@@ -5,3 +5,5 @@ pub mod Settling
 pub mod Ordering
 pub mod Whole
 pub mod Marked
+pub mod Standing
+pub mod Tops

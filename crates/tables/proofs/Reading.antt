@@ -17,10 +17,11 @@ use Rattle.trees.specs.Layout.{Elements, elementsOf}
 use Rattle.trees.proofs.Stack.{on-bit}
 use Rattle.reach.specs.Uses.{inverts, registers, keeps, remains}
 use Rattle.circuit.specs.Pins.{roleOf}
-use Rattle.circuit.specs.StageFive.{stageFive, positionedRight, mispositioned}
+use Rattle.circuit.specs.StageFive.{stageFive, mispositioned}
 use Rattle.circuit.specs.StageFive.Verdict.{fine}
 use Rattle.meaning.specs.Meaning.{showsNext, takesNext}
 use Rattle.meaning.proofs.Fine.{fine-is}
+use Rattle.meaning.proofs.Standing.{positioned-right, right-role}
 use Rattle.pins.specs.Named.{mentions, mentionsAt, namesPin}
 use Rattle.pins.specs.Variables.{variablePin, namesVariable, chosen, variablesOf}
 use Rattle.pins.proofs.Resting.{rests}
@@ -167,27 +168,6 @@ variable-of rows p t =
     (f .0, (f .1 .0, eqb-true (variablePin rows (f .0)) p (true-of (eqb (variablePin rows (f .0)) p) (f .1 .1)))))
     (λ (h : 24 ≤ p). absurd (subst (λ (b : Bool). T b) (no-role p h) t))
     (below-or-not p 24)
-
-right-role : (e : Elements) (i : ℕ) → positionedRight e i ≡ true → eqb (roleOf (e .pin i)) (e .class i) ≡ true
-unfolding positionedRight
-right-role e i q = go (eqb (e .positioned i) 1) (e .miscounted i) (eqb (roleOf (e .pin i)) (e .class i)) (eqb (e .given (e .pin i)) 1) q
-  where
-    go : (a b c d : Bool) → pick (not a) false (pick b false (pick (not c) false d)) ≡ true → c ≡ true
-    go true false true d z = refl
-    go true false false d z = absurd (clash (sym z))
-    go true true c d z = absurd (clash (sym z))
-    go false b c d z = absurd (clash (sym z))
-
-positioned-right : (e : Elements) (i : ℕ) → mispositioned e i ≡ false → T (eqb (e .class i) 1 || eqb (e .class i) 2) → positionedRight e i ≡ true
-unfolding mispositioned
-positioned-right e i q t = go (eqb (e .class i) 1) (eqb (e .class i) 2) (positionedRight e i) (pick (eqb (e .class i) 3) (not (eqb (e .positioned i) 0)) false) q t
-  where
-    go : (a b r x : Bool) → pick a (not r) (pick b (not r) x) ≡ false → T (a || b) → r ≡ true
-    go true b true x z u = refl
-    go true b false x z u = absurd (clash z)
-    go false true true x z u = refl
-    go false true false x z u = absurd (clash z)
-    go false false r x z u = absurd u
 
 signal-pin : (e : Elements) (i : ℕ) → mispositioned e i ≡ false → T (eqb (e .class i) 1 || eqb (e .class i) 2) → T (signalRole (e .pin i))
 unfolding signalRole
