@@ -4,3 +4,4 @@ pub mod Filling
 pub mod Tabling
 pub mod Marked
 pub mod Reading
+pub mod Cells
