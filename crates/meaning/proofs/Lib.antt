@@ -1,0 +1,9 @@
+pub mod Unique
+pub mod Fine
+pub mod Ranking
+pub mod Settling
+pub mod Ordering
+pub mod Whole
+pub mod Marked
+pub mod Standing
+pub mod Tops
