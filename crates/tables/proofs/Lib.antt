@@ -1,0 +1,4 @@
+pub mod Setting
+pub mod Values
+pub mod Filling
+pub mod Tabling
