@@ -11,26 +11,6 @@ ghost use Rattle.gal.specs.Model.{modelled, refusal};
 use gal::Answer;
 use gal::Verdict;
 
-// The signal of a pin with the value v.
-fn one_of(v: u8) -> u8
-    ensures { λ r. ⌜ r ≡ bit (on v) ⌝ }
-{
-    if v == 1 {
-        return 1;
-    }
-    0
-}
-
-// The signal of a register that holds v.
-fn none_of(v: u8) -> u8
-    ensures { λ r. ⌜ r ≡ bit (not (on v)) ⌝ }
-{
-    if v == 1 {
-        return 0;
-    }
-    1
-}
-
 // What pin x feeds to its column pair.
 fn signal_of(map: &[u8], bits: &[u8; 10], pins: &[u8; 24], x: usize) -> u8
     requires { ⌜ length (now map) ≡ 5892 ⌝ }
@@ -39,12 +19,12 @@ fn signal_of(map: &[u8], bits: &[u8; 10], pins: &[u8; 24], x: usize) -> u8
     ensures { λ r. ⌜ r ≡ bit (signal (now (map .entry)) (now (bits .entry)) (now (pins .entry)) x) ⌝ }
 {
     if x <= 13 {
-        return one_of(pins[x - 1]);
+        return basics::byte_of(pins[x - 1] == 1);
     }
     if gal::is_registered(map, 23 - x) {
-        return none_of(bits[x - 14]);
+        return basics::byte_of(bits[x - 14] != 1);
     }
-    one_of(pins[x - 1])
+    basics::byte_of(pins[x - 1] == 1)
 }
 
 // The signals of all column pairs.
