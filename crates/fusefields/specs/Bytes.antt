@@ -6,7 +6,7 @@ use lib.ListN.{getD}
 use lib.Dec.{leb, ltb, eqb}
 use Rattle.basics.specs.Choice.{pick}
 
--- 'The language we take': blanks are space, tab, CR, LF; READINGS 37: the file's are the same four
+-- READINGS 37: the four blanks of the language, here by their codes: space 32, tab 9, CR 13, LF 10
 unfoldable pub blank : ℕ → Bool
 blank b = pick (eqb b 32) true (pick (eqb b 9) true (pick (eqb b 13) true (eqb b 10)))
 

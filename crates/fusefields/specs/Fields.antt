@@ -30,8 +30,9 @@ pub data Listed : Type 0 where
 abbrev pub need : Bool → Listed → Listed
 need b x = pick b x (bad 20)
 
--- Reading, L: a number, blanks, then at least one 0 or 1, with blanks anywhere after; 22 where a fuse is above 5,891 (READINGS 36).
--- From the end: the contents, for the fuses from n on; blanks and the contents; all of it
+-- Reading, L: digits, one blank or more, and fuses, of which the first stands at once and the others with or without blanks around
+-- them; 22 where the number of any of them is above 5,891 (READINGS 36).
+-- From the end: the fuses, from number n on; blanks and then those; all of it
 unfoldable pub listedFuses : ℕ → List ℕ → Listed
 listedFuses n xs =
     need (some xs) (need (only fuseOrBlank xs) (pick (leb (n + length (fuses xs)) 5892) (good n (fuses xs)) (bad 22)))
@@ -47,7 +48,7 @@ abbrev pub faultOf : Listed → ℕ
 faultOf (bad n) = n
 faultOf (good from fs) = 0
 
--- Reading: a fuse listed twice takes the later value
+-- Reading: what an L lists stands in place of what earlier ones listed
 abbrev pub kept : Listed → List ℕ → List ℕ
 kept (bad n) cells = cells
 kept (good from fs) cells = put cells from fs
@@ -75,23 +76,23 @@ one xs = pick (eqb (length xs) 1) (fuse (getD xs 0 0)) false
 unfoldable pub numberFault : List ℕ → ℕ → ℕ
 numberFault xs n = pick (some xs) (pick (only digit xs) (pick (eqb (value 0 xs) n) 0 21) 20) 20
 
--- Reading, F: behind QF, at most once, before any L; one 0 or 1
+-- Reading, F: one of them is taken, between QF and the first L, with one 0 or 1
 unfoldable pub judgeF : Seen → List ℕ → Judged
 judgeF s xs =
     must (s .qf) (must (eqb (s .f) 2) (must (not (s .l)) (must (one xs)
     (Good (record { qf = s .qf; qp = s .qp; g = s .g; l = s .l; f = getD xs 0 0 - 48; c = s .c })))))
 
--- Reading, G: at most once; one 0 or 1, which is not kept
+-- Reading, G: one of them is taken, with one 0 or 1 that nothing remembers
 unfoldable pub judgeG : Seen → List ℕ → Judged
 judgeG s xs = must (not (s .g)) (must (one xs) (Good (record { qf = s .qf; qp = s .qp; g = true; l = s .l; f = s .f; c = s .c })))
 
--- Reading, C: at most once; four hex digits
+-- Reading, C: one of them is taken, with four hex digits
 unfoldable pub judgeC : Seen → List ℕ → Judged
 judgeC s xs =
     must (eqb (s .c) 65536) (must (eqb (length xs) 4) (must (only hexit xs)
     (Good (record { qf = s .qf; qp = s .qp; g = s .g; l = s .l; f = s .f; c = hex4Of xs }))))
 
--- Reading, QF and QP: at most once (READINGS 35: 20 before 21); one number, 5892 or 24
+-- Reading, QF and QP: one of each is taken (READINGS 35: a second is 20, whatever its number), and its number is 5892 or 24
 unfoldable pub judgeQF : Seen → List ℕ → Judged
 judgeQF s xs =
     must (not (s .qf)) (pick (eqb (numberFault xs 5892) 0)
@@ -107,7 +108,7 @@ unfoldable pub judgeQ : Seen → List ℕ → Judged
 judgeQ s [] = Good s
 judgeQ s (x ∷ xs) = pick (eqb x 70) (judgeQF s xs) (pick (eqb x 80) (judgeQP s xs) (Good s))
 
--- a field that is no L, by its letter: C 67, F 70, G 71, Q 81; other capital letters are skipped, and nothing else begins a field
+-- a field that is no L, by its letter: C 67, F 70, G 71, Q 81; any other capital letter says nothing to us, and no other byte begins a field
 unfoldable pub judgePlain : Seen → ℕ → List ℕ → Judged
 judgePlain s x xs =
     pick (eqb x 67) (judgeC s xs)

@@ -43,7 +43,8 @@ whole s z seen cells =
     (pick (bits (filled (seen .f) cells)) (summed s z (seen .c) (filled (seen .f) cells)) (refuses 20 (length s)))
     (refuses 20 (length s))
 
--- READINGS 33: behind byte 3 at z, four hex digits at once and then only blanks; the file that ends within them lacks something
+-- READINGS 33: right behind byte 3, at z, are four hex digits, and behind them nothing but blanks; a file that ends among the digits
+-- lacks something
 unfoldable pub ending : List ℕ → ℕ → Seen → List ℕ → Outcome
 ending s z seen cells =
     let tail : List ℕ = drop (z + 1) s in
@@ -63,7 +64,7 @@ opened s z h =
     pick (ltb (h + 1) z) (closing s z (walk unseen unlisted (h + 2) (pieces (drop (h + 2) (take z s)))))
     (pick (ltb z (length s)) (refuses 20 1) (refuses 20 (length s)))
 
--- Reading: at most 65,536 bytes (READINGS 39), byte 2 first; the first byte 3 stands at z
+-- Reading: no more than 65,536 bytes (READINGS 39), of which the first is byte 2; z is where the first byte 3 stands
 unfoldable pub readOf : List ℕ → Outcome
 readOf s =
     let z : ℕ = length (front notEnd s) in
@@ -71,7 +72,7 @@ readOf s =
     (pick (eqb (getD s 0 0) 2) (opened s z (length (front notStar (drop 1 (take z s))))) (refuses 20 0))
     (refuses 20 (length s))
 
--- 'Refusal numbers', 31 first: a lent map of another length
+-- 'Refusal numbers', 31 before all else: the lent map has not 5,892 bytes
 unfoldable pub readInto : List ℕ → ℕ → Outcome
 readInto file room = pick (eqb room 5892) (readOf file) (refuses 31 0)
 

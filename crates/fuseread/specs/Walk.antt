@@ -31,7 +31,8 @@ abbrev pub next : Step → ℕ → (Seen → List ℕ → Walked) → Walked
 next (stop n) place more = fault n place
 next (go s cells) place more = more s cells
 
--- Reading: a field is judged after those before it, blanks stand between them. The first piece begins at byte `at` of the file
+-- Reading: the fields in turn, each on what those before it left, with blanks allowed between them. The first piece begins at byte
+-- `at` of the file
 unfoldable pub walk : Seen → List ℕ → ℕ → List (List ℕ) → Walked
 walk s cells at [] = ended s cells
 walk s cells at (p ∷ []) = pick (only blank p) (ended s cells) (open-at (at + length (front blank p)))

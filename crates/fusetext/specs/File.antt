@@ -17,7 +17,7 @@ bits (x ∷ xs) = pick (leb x 1) (bits xs) false
 abbrev pub Bits : List ℕ → Type 0
 Bits m = (i : ℕ) → getD m i 0 ≤ 1
 
--- 'The device': a map is 5,892 fuses
+-- 'The device', 31: a map has 5,892 of them
 unfoldable pub isMap : List ℕ → Bool
 isMap m = pick (eqb (length m) 5892) (bits m) false
 
@@ -32,7 +32,7 @@ unfoldable pub sum : List ℕ → ℕ
 sum [] = 0
 sum (x ∷ xs) = x + sum xs
 
--- 'The fuse file', C: eight fuses in turn are a byte, the lowest fuse in its lowest bit
+-- 'The fuse file', C: eight fuses in turn make a byte; the first of them, the lowest fuse, is its lowest bit
 unfoldable pub byteOf : List ℕ → ℕ
 byteOf [] = 0
 byteOf (x ∷ xs) = x + 2 * byteOf xs
@@ -42,7 +42,7 @@ unfoldable pub bytesOf : ℕ → List ℕ → List ℕ
 bytesOf zero m = []
 bytesOf (suc n) m = byteOf (take 8 m) ∷ bytesOf n (drop 8 m)
 
--- 'The fuse file', C: a map's fuses are 736 bytes and a half, and these are summed. (The file shows the low 16 bits of the sum.)
+-- 'The fuse file', C: the sum of those bytes. A map's fuses make 736 and a half. (It is a 16-bit sum: the file shows its low 16 bits.)
 unfoldable pub fuseSum : List ℕ → ℕ
 fuseSum m = sum (bytesOf 737 m)
 
@@ -53,7 +53,7 @@ unfoldable pub digits : List ℕ → List ℕ
 digits [] = []
 digits (x ∷ xs) = (48 + x) ∷ digits xs
 
--- 'The fuse file', L: first fuse, a blank, the contents
+-- 'The fuse file', L: the number of the first fuse, a space, and the fuses from it on
 unfoldable pub listing : ℕ → List ℕ → List ℕ
 listing from fuses = text "L" ++ dec4 from ++ text " " ++ digits fuses ++ text "*\r\n"
 
@@ -75,18 +75,18 @@ rows (suc r) m = rows r m ++ listingIf (44 * r) (part (44 * r) 44 m)
 unfoldable pub checking : List ℕ → List ℕ
 checking m = text "C" ++ hex4 (fuseSum m) ++ text "*\r\n"
 
--- byte 2, and the fields that are the same in every file: heading, pins, fuses, security, default
+-- 'The fuse file': byte 2, the heading, and QP, QF, G and F, which are the same in every file
 unfoldable pub opening : List ℕ
 opening = 2 ∷ text "Lola GAL22V10*\r\nQP24*\r\nQF5892*\r\nG0*\r\nF0*\r\n"
 
--- all that stands before byte 3: S0 and S1 of the ten cells are always listed, signature fuses if any is 1
+-- 'The fuse file': all that stands before byte 3. S0 and S1 of the ten cells are listed in every file, the signature only where it has a 1
 unfoldable pub fieldsOf : List ℕ → List ℕ
 fieldsOf m = opening ++ rows 132 m ++ listing 5808 (part 5808 20 m) ++ listingIf 5828 (part 5828 64 m) ++ checking m
 
--- bytes 2 to 3, inclusive
+-- from byte 2 up to byte 3, both with it
 unfoldable pub body : List ℕ → List ℕ
 body m = fieldsOf m ++ (3 ∷ [])
 
--- 'The fuse file': the whole file, at its end the 16-bit sum of bytes 2 to 3
+-- 'The fuse file': the whole file. At its end stands the 16-bit sum of all bytes up to byte 3
 unfoldable pub fileOf : List ℕ → List ℕ
 fileOf m = body m ++ hex4 (sum (body m))
