@@ -46,20 +46,24 @@ pub fn write_file(digits: &[u8]) -> Vec<u8> {
 pub fn model_lines(input: &[u8]) -> Vec<u8> {
     let mut lines = input.split(|b| *b == b'\n').peekable();
     let first = lines.next().unwrap_or(b"");
-    let first = first.strip_suffix(b"\r").filter(|_| lines.peek().is_some()).unwrap_or(first);
-    let map = map_of(first);
+    let map = map_of(bare(first, lines.peek().is_some()));
     let mut answers = Vec::new();
     while let Some(line) = lines.next() {
         if line.is_empty() && lines.peek().is_none() {
             break;
         }
         let answer = match &map {
-            Ok(map) => model_line(map, line),
+            Ok(map) => model_line(map, bare(line, lines.peek().is_some())),
             Err(refusal) => Err(*refusal),
         };
         answers.extend(printed(answer));
     }
     answers
+}
+
+/// A line that has its LF may have a CR before it.
+fn bare(line: &[u8], ended: bool) -> &[u8] {
+    line.strip_suffix(b"\r").filter(|_| ended).unwrap_or(line)
 }
 
 fn model_line(map: &[u8], line: &[u8]) -> Judged<Vec<u8>> {

@@ -1,18 +1,6 @@
-// What every program does: a refusal's line on standard output, and standard input counted to its end.
-ghost use mathlib.Core.Path.{_≡_};
+// What every program does with standard input: a line of it, and all of it counted to its end.
 ghost use Prim.Native.Nat.{ℕ, _≤_};
 ghost use lib.ListN.{length};
-ghost use Rattle.lines.specs.Decimal.{refusalLine};
-
-// Prints a refusal's line and answers how long it is.
-pub fn refuse(number: u8, place: usize) -> usize
-    ensures { λ r. ⌜ r ≡ length (refusalLine number place) ⌝ }
-{
-    let mut line = [0u8; 42];
-    let n = lines::put_refusal(number, place, &mut line, 0);
-    io::write_all(1, &line[..n]);
-    n
-}
 
 // Takes what standard input still has, up to 65,536 bytes, and answers how many.
 fn more() -> usize
@@ -36,4 +24,53 @@ pub fn whole_length(had: usize) -> usize
         total += n;
     }
     total
+}
+
+// How much of a line was kept, and whether LF ended it.
+pub struct Line {
+    pub len: usize,
+    pub ended: bool,
+}
+
+// Keeps a byte where there is room for it.
+fn keep(buf: &mut [u8], n: usize, b: u8) -> usize
+    requires { ⌜ n ≤ length (now buf) ⌝ }
+    ensures { λ r. ⌜ r ≤ length (now (buf .exit)) ⌝ }
+{
+    if n < buf.len() {
+        buf[n] = b;
+        return n + 1;
+    }
+    n
+}
+
+// Reads a line of standard input, and keeps as much of it as there is room for.
+pub fn read_line(buf: &mut [u8]) -> Line
+    ensures { λ r. ⌜ r .len ≤ length (now (buf .exit)) ⌝ }
+{
+    let mut one = [0u8; 1];
+    let mut n: usize = 0;
+    let mut left: usize = 1000000000000;
+    while 0 < left {
+        left = left - 1;
+        let got = io::read_full(0, &mut one);
+        if got == 0 {
+            return Line {
+                len: n,
+                ended: false,
+            };
+        }
+        let b = one[0];
+        if b == 10 {
+            return Line {
+                len: n,
+                ended: true,
+            };
+        }
+        n = keep(buf, n, b);
+    }
+    Line {
+        len: n,
+        ended: false,
+    }
 }

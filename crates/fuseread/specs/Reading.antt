@@ -86,7 +86,9 @@ abbrev pub outcomeOf : Reading → List ℕ → Outcome
 outcomeOf Map m = gives m
 outcomeOf (Refused number place) m = refuses number place
 
--- What a call of the reader does, on a file and a lent map that held `before`.
+-- What a call of the reader does, on a file and a lent map that held `before`: its answer, what the map holds then, and that a map that is
+-- given fills it.
 pub record Reads (file before : List ℕ) (answer : Reading) (after : List ℕ) : Type 0 where
   pub answers : answer ≡ readingOf (readInto file (length before))
   pub leaves : after ≡ left (readInto file (length before)) before
+  pub fills : outcomeOf answer after ≡ readInto file (length before)

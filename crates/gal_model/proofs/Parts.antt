@@ -6,20 +6,14 @@ use Prim.Native.Nat.{ℕ, _≤_}
 use native.Mathlib.Omega.{arith}
 use lib.ListN.{length, take, drop}
 use lib.Seq.{length-take-le, length-front}
-use Rattle.gallines.specs.Lines.{answerTo, contents}
-use Rattle.gallines.proofs.Answering.{answer-fits, contents-le}
 
 pub part-size : (n : ℕ) (l : List ℕ) → n ≤ length l → n ≡ length (take n l)
 part-size n l h = sym (length-take-le n l h)
 
--- the contents of a part lie within the whole
-pub within : (n k : ℕ) (l : List ℕ) → n ≤ length l → k ≡ contents (take n l) → k ≤ length l
-within n k l h e = let c = contents-le (take n l) in let s = part-size n l h in omega arith
+-- what lies within a part lies within the whole
+pub within : (n k : ℕ) (l : List ℕ) → n ≤ length l → k ≤ length (take n l) → k ≤ length l
+within n k l h e = let s = part-size n l h in omega arith
 
 -- a front that is written anew keeps the room's length
 pub front : (k : ℕ) (xs l : List ℕ) → k ≤ length l → length xs ≡ length (take k l) → k ≤ length (xs ++ drop k l)
 front k xs l h e = let f = length-front l xs k e in omega arith
-
--- an answer lies within the room lent for it
-pub answer-within : (m line out : List ℕ) (n k : ℕ) → n ≡ length (answerTo m line) → k ≡ length out → 61 ≤ k → n ≤ length out
-answer-within m line out n k e f h = let a = answer-fits m line in omega arith

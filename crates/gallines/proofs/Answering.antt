@@ -13,47 +13,30 @@ use Rattle.basics.proofs.Folds.{listed-length, listed-at, any-hit}
 use Rattle.gal.specs.declared.Answer.{Answer}
 use Rattle.gal.specs.declared.Verdict.{Verdict}
 use Rattle.gal.specs.declared.Verdict.the-variants.{Shown, Refused}
-use Rattle.gal.specs.Model.{modelled, refusal}
+use Rattle.gal.specs.Model.{modelled, refusal, answered}
 use Rattle.gal.specs.Refuse.{noMap, outside, callers, wrong, wrongPins, wrongBits, noValues}
-use Rattle.gallines.specs.Lines.{bitsOf, pinsOf, shownByte, refusalByte, textFor, answerTo, contents, formed, given}
-
--- out with the text t written at its front is what was asked
-written : (t u out now-out : List ℕ) (n : ℕ) → t ≡ u → length t ≡ n → now-out ≡ t ++ drop n out → (n ≡ length u) × (now-out ≡ u ++ drop n out)
-written t u out now-out n e l w = (sym l ∙ ap length e, w ∙ ap (λ (x : List ℕ). x ++ drop n out) e)
+use Rattle.lines.specs.Decimal.{spell, decimal, refusalLine}
+use Rattle.fusetext.specs.Put.{Wrote}
+use Rattle.fusetext.proofs.Puts.{put-front, wrote-as}
+use Rattle.gallines.specs.Lines.{bitsOf, pinsOf, shownByte, textFor, answerTo, formed, given}
 
 text-is : (m line bits pins : List ℕ) (a : Answer) (v : Verdict) → bits ≡ bitsOf line → pins ≡ pinsOf line → a ≡ modelled m bits pins → a .verdict ≡ v → textFor v a ≡ answerTo m line
 unfolding answerTo
 text-is m line bits pins a v eb ep ea ev =
     ap (λ (w : Verdict). textFor w a) (sym ev) ∙ ap (λ (x : Answer). textFor (x .verdict) x) (ea ∙ (λ i. modelled m (eb i) (ep i)))
 
-pub answer-shown : (m line bits pins : List ℕ) (a : Answer) (out now-out : List ℕ) → bits ≡ bitsOf line → pins ≡ pinsOf line → a ≡ modelled m bits pins → a .verdict ≡ Shown
-    → now-out ≡ listed (shownByte (a .shown) (a .values) (a .next)) 61 ++ drop 61 out → (61 ≡ length (answerTo m line)) × (now-out ≡ answerTo m line ++ drop 61 out)
-answer-shown m line bits pins a out now-out eb ep ea ev w =
-    written (listed (shownByte (a .shown) (a .values) (a .next)) 61) (answerTo m line) out now-out 61 (text-is m line bits pins a Shown eb ep ea ev) (listed-length (shownByte (a .shown) (a .values) (a .next)) 61) w
+pub answer-shown : (m line bits pins : List ℕ) (a : Answer) (out now-out : List ℕ) → bits ≡ bitsOf line → pins ≡ pinsOf line → a ≡ modelled m bits pins → a .verdict ≡ Shown → 61 ≤ length out
+    → now-out ≡ listed (shownByte (a .shown) (a .values) (a .next)) 61 ++ drop 61 out → Wrote out 0 (answerTo m line) now-out 61
+answer-shown m line bits pins a out now-out eb ep ea ev h w =
+    let f : ℕ → ℕ = shownByte (a .shown) (a .values) (a .next) in
+    let l : length (listed f 61) ≡ 61 = listed-length f 61 in
+    wrote-as
+    (record { room = omega arith; holds = w ∙ ap (λ (n : ℕ). listed f 61 ++ drop n out) (sym l) ∙ sym (put-front out (listed f 61)); ends = omega arith })
+    (text-is m line bits pins a Shown eb ep ea ev)
 
-pub answer-refused : (m line bits pins : List ℕ) (a : Answer) (number place : ℕ) (out now-out : List ℕ) → bits ≡ bitsOf line → pins ≡ pinsOf line → a ≡ modelled m bits pins
-    → a .verdict ≡ Refused number place → now-out ≡ listed (refusalByte number) 5 ++ drop 5 out → (5 ≡ length (answerTo m line)) × (now-out ≡ answerTo m line ++ drop 5 out)
-answer-refused m line bits pins a number place out now-out eb ep ea ev w =
-    written (listed (refusalByte number) 5) (answerTo m line) out now-out 5 (text-is m line bits pins a (Refused number place) eb ep ea ev) (listed-length (refusalByte number) 5) w
-
--- ---- lengths, for a caller that lends its room
-
-pub answer-fits : (m line : List ℕ) → length (answerTo m line) ≤ 61
-unfolding answerTo
-answer-fits m line = go ((modelled m (bitsOf line) (pinsOf line)) .verdict) (modelled m (bitsOf line) (pinsOf line))
-  where
-    go : (v : Verdict) (a : Answer) → length (textFor v a) ≤ 61
-    go Shown a = let e = listed-length (shownByte (a .shown) (a .values) (a .next)) 61 in omega arith
-    go (Refused n p) a = let e = listed-length (refusalByte n) 5 in omega arith
-
-pub contents-le : (line : List ℕ) → contents line ≤ length line
-unfolding contents
-contents-le line = go (eqb (length line) 0) (eqb (getD line (length line - 1) 0) 13)
-  where
-    go : (a b : Bool) → pick a 0 (pick b (length line - 1) (length line)) ≤ length line
-    go true b = omega arith
-    go false true = omega arith
-    go false false = omega arith
+pub answer-refused : (m line bits pins : List ℕ) (a : Answer) (number place : ℕ) {out now-out : List ℕ} {n : ℕ} → bits ≡ bitsOf line → pins ≡ pinsOf line → a ≡ modelled m bits pins
+    → a .verdict ≡ Refused number place → Wrote out 0 (refusalLine number place) now-out n → Wrote out 0 (answerTo m line) now-out n
+answer-refused m line bits pins a number place eb ep ea ev w = wrote-as w (text-is m line bits pins a (Refused number place) eb ep ea ev)
 
 -- ---- what is not of the form is refused 32, once the map is taken
 
@@ -72,3 +55,31 @@ all-ten line i q = simp q
 pub not-formed : (m line : List ℕ) → formed line ≡ false → noMap m ≡ false → outside m ≡ false → modelled m (bitsOf line) (pinsOf line) ≡ refusal 32
 unfolding modelled
 not-formed m line e f g = simp (f, g, ten-pin m line 0 (omega arith) (all-ten line (0 + 11) e))
+
+-- ---- how long an answer is, for a caller that lends its room: five bytes where the line is not of the form
+
+refusal-five : (m line : List ℕ) (n : ℕ) → length (refusalLine n 0) ≡ 5 → modelled m (bitsOf line) (pinsOf line) ≡ refusal n → length (answerTo m line) ≡ 5
+unfolding answerTo
+refusal-five m line n h e = ap (λ (a : Answer). length (textFor (a .verdict) a)) e ∙ h
+
+five : (length (refusalLine 30 0) ≡ 5) × (length (refusalLine 31 0) ≡ 5) × (length (refusalLine 32 0) ≡ 5)
+unfolding refusalLine decimal spell
+five = (refl, refl, refl)
+
+shown-size : (m line : List ℕ) → modelled m (bitsOf line) (pinsOf line) ≡ answered m (bitsOf line) (pinsOf line) → length (answerTo m line) ≡ 61
+unfolding answerTo
+shown-size m line e = ap (λ (a : Answer). length (textFor (a .verdict) a)) e ∙ listed-length _ 61
+
+pub answer-size : (m line : List ℕ) → length (answerTo m line) ≤ pick (formed line) 61 5
+answer-size m line = go (noMap m) (outside m) (noValues m (bitsOf line) (pinsOf line)) (formed line) refl refl refl refl
+  where
+    small : (b : Bool) → length (answerTo m line) ≡ 5 → length (answerTo m line) ≤ pick b 61 5
+    small true e = omega arith
+    small false e = omega arith
+
+    go : (a b c d : Bool) → noMap m ≡ a → outside m ≡ b → noValues m (bitsOf line) (pinsOf line) ≡ c → formed line ≡ d → length (answerTo m line) ≤ pick d 61 5
+    go true b c d p q r s = small d (refusal-five m line 31 (five .1) (unfold modelled in simp p))
+    go false true c d p q r s = small d (refusal-five m line 30 (five .0) (unfold modelled in simp (p, q)))
+    go false false c false p q r s = small false (refusal-five m line 32 (five .2) (not-formed m line s p q))
+    go false false true true p q r s = small true (refusal-five m line 32 (five .2) (unfold modelled in simp (p, q, r)))
+    go false false false true p q r s = let e = shown-size m line (unfold modelled in simp (p, q, r)) in omega arith

@@ -2,11 +2,12 @@
 -- Assumes nothing.
 use mathlib.Core.Bool.{Bool, _&&_}
 use mathlib.Core.List.{List}
-use Prim.Native.Nat.{ℕ, _+_, _-_, _/_, _%_}
+use Prim.Native.Nat.{ℕ, _+_, _-_}
 use lib.Dec.{eqb, ltb}
 use lib.ListN.{length, getD}
 use Rattle.basics.specs.Choice.{bit, on, pick}
 use Rattle.basics.specs.Below.{listed}
+use Rattle.lines.specs.Decimal.{refusalLine}
 use Rattle.gal.specs.declared.Answer.{Answer}
 use Rattle.gal.specs.declared.Verdict.{Verdict}
 use Rattle.gal.specs.declared.Verdict.the-variants.{Shown, Refused}
@@ -43,13 +44,10 @@ shownByte shown values next i =
     pick (ltb i 24) (charOf (getD shown i 0))
     (pick (eqb i 24) 32 (pick (ltb i 49) (charOf (getD values (i - 25) 0)) (pick (eqb i 49) 32 (pick (ltb i 60) (charOf (getD next (i - 50) 0)) 10))))
 
--- a refusal's bytes: its number, which has two digits, a blank, the place 0, LF
-unfoldable pub refusalByte : ℕ → ℕ → ℕ
-refusalByte n i = pick (eqb i 0) (48 + n / 10) (pick (eqb i 1) (48 + n % 10) (pick (eqb i 2) 32 (pick (eqb i 3) 48 10)))
-
+-- what is printed for each verdict
 abbrev pub textFor : Verdict → Answer → List ℕ
 textFor Shown a = listed (shownByte (a .shown) (a .values) (a .next)) 61
-textFor (Refused n p) a = listed (refusalByte n) 5
+textFor (Refused number place) a = refusalLine number place
 
 -- the answer to a line
 unfoldable pub answerTo : List ℕ → List ℕ → List ℕ

@@ -7,7 +7,8 @@ ghost use Prim.Native.Nat.{_+_, _<_, _≤_};
 ghost use lib.Dec.{eqb};
 ghost use lib.ListN.{length, getD, drop};
 ghost use Rattle.basics.specs.Below.{listed};
-ghost use Rattle.gallines.specs.Lines.{digit, mapOf, formed, given, bitsOf, pinsOf, charOf, shownByte, refusalByte, answerTo, contents};
+ghost use Rattle.fusetext.specs.Put.{Wrote};
+ghost use Rattle.gallines.specs.Lines.{digit, mapOf, formed, given, bitsOf, pinsOf, charOf, shownByte, answerTo, contents};
 
 // The value of a digit.
 fn digit_of(b: u8) -> u8
@@ -124,41 +125,10 @@ fn put_shown(shown: &[u8; 24], values: &[u8; 24], next: &[u8; 10], out: &mut [u8
     }
 }
 
-// Byte i of a refusal.
-fn refusal_byte(n: u8, i: usize) -> u8
-    ensures { λ r. ⌜ r ≡ refusalByte n i ⌝ }
-{
-    if i == 0 {
-        return 48 + n / 10;
-    }
-    if i == 1 {
-        return 48 + n % 10;
-    }
-    if i == 2 {
-        return 32;
-    }
-    if i == 3 {
-        return 48;
-    }
-    10
-}
-
-// Writes a refusal.
-fn put_refusal(n: u8, out: &mut [u8])
-    requires { ⌜ 61 ≤ length (now out) ⌝ }
-    ensures { λ _. ⌜ now (out .exit) ≡ listed (refusalByte n) 5 ++ drop 5 (now (out .entry)) ⌝ }
-{
-    let mut i: usize = 0;
-    while i < 5 {
-        out[i] = refusal_byte(n, i);
-        i += 1;
-    }
-}
-
 // Writes the answer to a line, and says how long it is.
 pub fn answer(map: &[u8], line: &[u8], out: &mut [u8]) -> usize
     requires { ⌜ 61 ≤ length (now out) ⌝ }
-    ensures { λ r. ⌜ (r ≡ length (answerTo (now (map .entry)) (now (line .entry)))) × (now (out .exit) ≡ answerTo (now (map .entry)) (now (line .entry)) ++ drop r (now (out .entry))) ⌝ }
+    ensures { λ r. ⌜ Wrote (now (out .entry)) 0 (answerTo (now (map .entry)) (now (line .entry))) (now (out .exit)) r ⌝ }
 {
     let bits = bits_of(line);
     let pins = pins_of(line);
@@ -172,16 +142,13 @@ pub fn answer(map: &[u8], line: &[u8], out: &mut [u8]) -> usize
             put_shown(&shown, &values, &next, out);
             61
         }
-        Verdict::Refused { number, place } => {
-            put_refusal(number, out);
-            5
-        }
+        Verdict::Refused { number, place } => { lines::put_refusal(number, place, out, 0) }
     }
 }
 
 // How much of a line that ended in LF is its contents.
 pub fn contents_of(line: &[u8]) -> usize
-    ensures { λ r. ⌜ r ≡ contents (now (line .entry)) ⌝ }
+    ensures { λ r. ⌜ (r ≡ contents (now (line .entry))) × (r ≤ length (now (line .entry))) ⌝ }
 {
     let n = line.len();
     if n == 0 {

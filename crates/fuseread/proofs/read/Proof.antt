@@ -1,9 +1,10 @@
-use Rattle.fusetext.specs.Outcome.{Outcome, left}
+use Rattle.fusetext.specs.Outcome.{Outcome, left, gives}
+use mathlib.Core.List.{List}
 use native.Mathlib.Omega.{arith}
 use Rattle.fuseread.specs.declared.Reading.{Reading}
 use Rattle.fuseread.proofs.Endings.{into-other, into-map}
 use Rattle.fuseread.specs.Reading.{readingOf, outcomeOf, unlisted}
-use Rattle.fusetext.proofs.Puts.{put-front}
+use Rattle.fusetext.proofs.Puts.{put-front, wrote-all}
 use mathlib.Core.Path.{_≡_, refl, sym, ap, ap₂, _∙_}
 use Prim.Native.Nat.{ℕ, _+_, _-_, _≤_}
 use lib.ListN.{length, drop, take, length-set}
@@ -16,7 +17,7 @@ use Rattle.fuseread.proofs.read_file.Reads as read-file-reads
 use Rattle.fusetext.proofs.field.put_text.Reads as put-text-reads
 
 returns : tie.Need-returns
-returns c = let e = into-other (c .before .before .before .args .file .now) (length (c .before .before .before .args .map .now)) (c .if1 .taken) in record { answers = ap readingOf e; leaves = ap (λ (r : Outcome). left r (c .before .before .before .args .map .now)) e }
+returns c = let e = into-other (c .before .before .before .args .file .now) (length (c .before .before .before .args .map .now)) (c .if1 .taken) in record { answers = ap readingOf e; leaves = ap (λ (r : Outcome). left r (c .before .before .before .args .map .now)) e; fills = e }
 
 slice-aggregate-read-file : tie.Need-slice-aggregate-read-file
 slice-aggregate-read-file c = search needs
@@ -41,13 +42,13 @@ same-length : tie.Need-same-length
 same-length c = search needs
 
 returns-2 : tie.Need-returns-2
-returns-2 c = let e = (sym (ap (λ (v : Reading). outcomeOf v (c .before .before .before .before .before .before .before .before .before .read-file .last .1 .1 .0)) (c .before .before .before .before .before .enum-told .given .1)) ∙ c .before .before .before .before .before .before .before .before .before .read-file .ensures ∙ into-map (c .before .before .before .before .before .before .before .before .before .before .before .before .before .before .before .args .file .now) (length (c .before .before .before .before .before .before .before .before .before .before .before .before .before .before .before .args .map .now)) (c .before .before .before .before .before .before .before .before .before .before .before .before .if1 .left)) in record { answers = ap readingOf e; leaves = c .before .before .put-text .ensures .holds ∙ put-front _ _ ∙ ap (λ (r : Outcome). left r (c .before .before .before .before .before .before .before .before .before .before .before .before .before .before .before .args .map .now)) e }
+returns-2 c = let e = (sym (ap (λ (v : Reading). outcomeOf v (c .before .before .before .before .before .before .before .before .before .read-file .last .1 .1 .0)) (c .before .before .before .before .before .enum-told .given .1)) ∙ c .before .before .before .before .before .before .before .before .before .read-file .ensures ∙ into-map (c .before .before .before .before .before .before .before .before .before .before .before .before .before .before .before .args .file .now) (length (c .before .before .before .before .before .before .before .before .before .before .before .before .before .before .before .args .map .now)) (c .before .before .before .before .before .before .before .before .before .before .before .before .if1 .left)) in record { answers = ap readingOf e; leaves = c .before .before .put-text .ensures .holds ∙ put-front _ _ ∙ ap (λ (r : Outcome). left r (c .before .before .before .before .before .before .before .before .before .before .before .before .before .before .before .args .map .now)) e; fills = ap (λ (m : List ℕ). gives m) (wrote-all (c .before .before .put-text .ensures) (omega arith)) ∙ e }
 
 enum-known-reading : tie.Need-enum-known-reading
 enum-known-reading c = search needs
 
 returns-3 : tie.Need-returns-3
-returns-3 c = let e = (sym (ap (λ (v : Reading). outcomeOf v (c .before .before .before .before .before .read-file .last .1 .1 .0)) (c .before .reading .given .1)) ∙ c .before .before .before .before .before .read-file .ensures ∙ into-map (c .before .before .before .before .before .before .before .before .before .before .before .args .file .now) (length (c .before .before .before .before .before .before .before .before .before .before .before .args .map .now)) (c .before .before .before .before .before .before .before .before .if1 .left)) in record { answers = ap readingOf e; leaves = ap (λ (r : Outcome). left r (c .before .before .before .before .before .before .before .before .before .before .before .args .map .now)) e }
+returns-3 c = let e = (sym (ap (λ (v : Reading). outcomeOf v (c .before .before .before .before .before .read-file .last .1 .1 .0)) (c .before .reading .given .1)) ∙ c .before .before .before .before .before .read-file .ensures ∙ into-map (c .before .before .before .before .before .before .before .before .before .before .before .args .file .now) (length (c .before .before .before .before .before .before .before .before .before .before .before .args .map .now)) (c .before .before .before .before .before .before .before .before .if1 .left)) in record { answers = ap readingOf e; leaves = ap (λ (r : Outcome). left r (c .before .before .before .before .before .before .before .before .before .before .before .args .map .now)) e; fills = e }
 
 pub read-spec : {M : Type 1} → statement M
 read-spec =

@@ -1,67 +1,53 @@
-use Rattle.gal_model.proofs.Parts.{part-size, within, front, answer-within}
+use Rattle.gal_model.proofs.Parts.{part-size, within, front}
 use borrow.Author.Needs.{needs}
 use Rattle.gal_model.proofs.run.Statement.{statement}
 use Rattle.gal_model.proofs.run.Tie as tie
 use Rattle.gal_model.proofs.run.Reads as reads
 use Rattle.gal_model.proofs.run.Lts as lts
 use Rattle.gal_model.proofs.answer_all.Reads as answer-all-reads
-use Rattle.gal_model.proofs.read_line.Reads as read-line-reads
+use Rattle.answers.proofs.read_line.Reads as read-line-reads
 use Rattle.gallines.proofs.contents_of.Reads as contents-of-reads
 use Rattle.gallines.proofs.map_in.Reads as map-in-reads
 
--- src/main.rt:104:9
 read-line-requires : tie.Need-read-line-requires
 read-line-requires c κs = search needs
 
--- src/main.rt:107:39
 slice-reshare-prefix-contents-of : tie.Need-slice-reshare-prefix-contents-of
 slice-reshare-prefix-contents-of c = search needs
 
--- src/main.rt:107:39
 slice-aggregate-contents-of : tie.Need-slice-aggregate-contents-of
 slice-aggregate-contents-of c = part-size _ _ (c .before .before .before .before .read-line .ensures)
 
--- src/main.rt:107:13
 contents-of-requires : tie.Need-contents-of-requires
 contents-of-requires c κs = search needs
 
--- src/main.rt:108:26
 slice-relend-prefix-map-in : tie.Need-slice-relend-prefix-map-in
-slice-relend-prefix-map-in c = within _ _ _ (c .before .before .before .before .before .read-line .ensures) (c .contents-of .ensures)
+slice-relend-prefix-map-in c = within _ _ _ (c .before .before .before .before .before .read-line .ensures) (c .contents-of .ensures .1)
 
--- src/main.rt:108:26
 slice-aggregate-map-in : tie.Need-slice-aggregate-map-in
-slice-aggregate-map-in c = part-size _ _ (within _ _ _ (c .before .before .before .before .before .before .read-line .ensures) (c .before .contents-of .ensures))
+slice-aggregate-map-in c = part-size _ _ (within _ _ _ (c .before .before .before .before .before .before .read-line .ensures) (c .before .contents-of .ensures .1))
 
--- src/main.rt:108:9
 map-in-requires : tie.Need-map-in-requires
 map-in-requires c κs = search needs
 
--- src/main.rt:109:20
 slice-reshare-prefix-answer-all : tie.Need-slice-reshare-prefix-answer-all
-slice-reshare-prefix-answer-all c = front _ (c .before .before .map-in .last .0) (c .before .before .before .before .before .before .before .before .before .read-line .last .0) (within _ _ (c .before .before .before .before .before .before .before .before .before .read-line .last .0) (c .before .before .before .before .before .before .before .before .before .read-line .ensures) (c .before .before .before .before .contents-of .ensures)) (c .before .before .map-in .kept .0)
+slice-reshare-prefix-answer-all c = front _ (c .before .before .map-in .last .0) (c .before .before .before .before .before .before .before .before .before .read-line .last .0) (within _ _ (c .before .before .before .before .before .before .before .before .before .read-line .last .0) (c .before .before .before .before .before .before .before .before .before .read-line .ensures) (c .before .before .before .before .contents-of .ensures .1)) (c .before .before .map-in .kept .0)
 
--- src/main.rt:109:20
 slice-aggregate-answer-all : tie.Need-slice-aggregate-answer-all
-slice-aggregate-answer-all c = part-size _ _ (front _ (c .before .before .before .map-in .last .0) (c .before .before .before .before .before .before .before .before .before .before .read-line .last .0) (within _ _ (c .before .before .before .before .before .before .before .before .before .before .read-line .last .0) (c .before .before .before .before .before .before .before .before .before .before .read-line .ensures) (c .before .before .before .before .before .contents-of .ensures)) (c .before .before .before .map-in .kept .0))
+slice-aggregate-answer-all c = part-size _ _ (front _ (c .before .before .before .map-in .last .0) (c .before .before .before .before .before .before .before .before .before .before .read-line .last .0) (within _ _ (c .before .before .before .before .before .before .before .before .before .before .read-line .last .0) (c .before .before .before .before .before .before .before .before .before .before .read-line .ensures) (c .before .before .before .before .before .contents-of .ensures .1)) (c .before .before .before .map-in .kept .0))
 
--- src/main.rt:109:9
 answer-all-requires : tie.Need-answer-all-requires
 answer-all-requires c κs = search needs
 
--- src/main.rt:110:9
 same-length : tie.Need-same-length
 same-length c = search needs
 
--- src/main.rt:110:9
 returns : tie.Need-returns
 returns c = search needs
 
--- src/main.rt:103:1
 same-length-2 : tie.Need-same-length-2
 same-length-2 c = search needs
 
--- src/main.rt:103:1
 returns-2 : tie.Need-returns-2
 returns-2 c = search needs
 
