@@ -37,7 +37,7 @@ pub fn inner(
 }
 
 // A factor behind a ~ at a place.
-pub fn negated(
+fn negated(
     text: &[u8],
     names: &[u16],
     room: &mut [u32],
@@ -60,7 +60,7 @@ pub fn negated(
 }
 
 // An expression in what opens at a place, and the word of a kind.
-pub fn part(
+fn part(
     text: &[u8],
     names: &[u16],
     room: &mut [u32],
@@ -117,7 +117,7 @@ pub fn part(
 }
 
 // An index in brackets.
-pub fn bracket(
+fn bracket(
     text: &[u8],
     names: &[u16],
     room: &mut [u32],
@@ -225,8 +225,8 @@ pub fn index(
     }
 }
 
-// The last part of a MUX.
-pub fn mux_third(
+// The last part of the MUX at a place, whose bracket is at another.
+fn mux_third(
     text: &[u8],
     names: &[u16],
     room: &mut [u32],
@@ -269,7 +269,7 @@ pub fn mux_third(
     }
 }
 
-pub fn mux_second(
+fn mux_second(
     text: &[u8],
     names: &[u16],
     room: &mut [u32],
@@ -324,7 +324,7 @@ pub fn mux_second(
 }
 
 // MUX at a place, from past it.
-pub fn mux(
+fn mux(
     text: &[u8],
     names: &[u16],
     room: &mut [u32],
@@ -387,7 +387,7 @@ pub fn mux(
 }
 
 // Behind the first part of the REG at a place.
-pub fn rest(
+fn rest(
     text: &[u8],
     names: &[u16],
     room: &mut [u32],
@@ -455,7 +455,7 @@ pub fn rest(
 }
 
 // REG at a place, from past it.
-pub fn reg(
+fn reg(
     text: &[u8],
     names: &[u16],
     room: &mut [u32],
@@ -517,7 +517,7 @@ pub fn reg(
 }
 
 // A ~ at a place, from past it.
-pub fn invert(
+fn invert(
     text: &[u8],
     names: &[u16],
     room: &mut [u32],
@@ -547,7 +547,7 @@ pub fn invert(
     }
 }
 
-pub fn factor(
+fn factor(
     text: &[u8],
     names: &[u16],
     room: &mut [u32],
@@ -613,7 +613,7 @@ pub fn factor(
     }
 }
 
-pub fn product_turn(
+fn product_turn(
     text: &[u8],
     names: &[u16],
     room: &mut [u32],
@@ -690,7 +690,7 @@ pub fn product_turn(
     }
 }
 
-pub fn products(
+fn products(
     text: &[u8],
     names: &[u16],
     room: &mut [u32],
@@ -738,7 +738,7 @@ pub fn products(
     }
 }
 
-pub fn term(
+fn term(
     text: &[u8],
     names: &[u16],
     room: &mut [u32],
@@ -767,7 +767,7 @@ pub fn term(
     }
 }
 
-pub fn sum_turn(
+fn sum_turn(
     text: &[u8],
     names: &[u16],
     room: &mut [u32],
@@ -844,7 +844,7 @@ pub fn sum_turn(
     }
 }
 
-pub fn sums(
+fn sums(
     text: &[u8],
     names: &[u16],
     room: &mut [u32],
