@@ -4,7 +4,7 @@ use integers::Num;
 ghost use mathlib.Core.Path.{_≡_};
 ghost use lib.ListN.{getD, set};
 ghost use lib.IntN.{pos};
-ghost use Prim.Native.Nat.{_-_};
+ghost use Prim.Native.Nat.{_+_, _-_};
 ghost use Rattle.integers.specs.Integers.{num};
 ghost use Rattle.parts.specs.Parts.{raised, noted, allows, oneMore, declaredFrom, assignedIn, pinnedIn, positionedIn, miscountedFrom};
 
@@ -86,25 +86,25 @@ pub fn assign_to(room: &mut [u32], k: u32, a: usize, b: usize)
     raise(room, 2304 + at);
 }
 
-// The pin's number that is given to element k.
-fn pin_to(room: &mut [u32], k: u32, p: u16)
-    ensures { λ _. ⌜ now (room .exit) ≡ pinnedIn (now (room .entry)) k (pos p) ⌝ }
+// The pin's number that is given to element k + j.
+fn pin_to(room: &mut [u32], k: u32, j: u32, p: u16)
+    ensures { λ _. ⌜ now (room .exit) ≡ pinnedIn (now (room .entry)) (k + j) (pos p) ⌝ }
 {
     if 1 <= p {
         if p <= 24 {
-            put(room, 2432 + k as usize, p as u32);
+            put(room, 2432 + (k as usize + j as usize), p as u32);
             raise(room, 2560 + p as usize);
         }
     }
 }
 
-// A position statement for element k, with its number.
-pub fn position_of(room: &mut [u32], k: u32, value: Num)
-    ensures { λ _. ⌜ now (room .exit) ≡ positionedIn (now (room .entry)) k (num value) ⌝ }
+// A position statement for element k + j, with its number.
+pub fn position_of(room: &mut [u32], k: u32, j: u32, value: Num)
+    ensures { λ _. ⌜ now (room .exit) ≡ positionedIn (now (room .entry)) (k + j) (num value) ⌝ }
 {
-    raise(room, 2368 + k as usize);
+    raise(room, 2368 + (k as usize + j as usize));
     match value {
-        Num::Up(p) => pin_to(room, k, p),
+        Num::Up(p) => pin_to(room, k, j, p),
         Num::Down(_) => {}
     }
 }
