@@ -1,11 +1,12 @@
 -- Elements that are written one after the other. Assumes nothing.
 use mathlib.Core.Path.{_≡_, refl, sym, ap, ap₂, _∙_}
+use mathlib.Core.Bool.{false}
 use mathlib.Core.List.{List}
 use Prim.Native.Nat.{ℕ, zero, suc, _+_, _-_, _<_, _≤_}
 use native.Mathlib.Omega.{arith}
 use lib.ListN.{set}
 use Rattle.trees.specs.Layout.{classAt, placeAt, startAt, sizeAt, timesAt, namedAt, countAt}
-use Rattle.parts.specs.Parts.{raised, noted, assignedIn, declaredFrom, miscountedFrom}
+use Rattle.parts.specs.Parts.{raised, noted, allows, oneMore, assignedIn, declaredFrom, miscountedFrom}
 
 module _ (k n i : ℕ) (l : List ℕ) where
   one-left : i < n → n - i ≡ suc (n - (i + 1))
@@ -52,3 +53,8 @@ pub assigned-by : (l l₁ l₂ l₃ : List ℕ) (k a b d : ℕ) → d ≡ b - a 
 unfolding assignedIn
 assigned-by l l₁ l₂ l₃ k a b d e e₁ e₂ e₃ =
     e₃ ∙ ap (λ (m : List ℕ). raised m (timesAt + k)) (e₂ ∙ ap₂ (λ (m : List ℕ) (x : ℕ). noted m (sizeAt + k) x) e₁ e)
+
+-- past a limit nothing is counted
+pub none-more : (l : List ℕ) (k n : ℕ) → allows l k n ≡ false → oneMore l k n ≡ l
+unfolding oneMore
+none-more l k n e = simp e
