@@ -1,0 +1,4 @@
+pub mod Placed
+pub mod Pins
+pub mod StageFive
+pub mod Judged

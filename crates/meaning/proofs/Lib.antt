@@ -1,0 +1,6 @@
+pub mod Unique
+pub mod Fine
+pub mod Ranking
+pub mod Settling
+pub mod Ordering
+pub mod Whole

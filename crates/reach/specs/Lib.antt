@@ -1,0 +1,3 @@
+pub mod Uses
+pub mod Reach
+pub mod Table

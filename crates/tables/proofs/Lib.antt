@@ -1,0 +1,3 @@
+pub mod Setting
+pub mod Entry
+pub mod Filling

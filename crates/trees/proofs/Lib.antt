@@ -1,0 +1,4 @@
+pub mod Flat
+pub mod Stack
+pub mod Marked
+pub mod Runs
