@@ -1,3 +1,4 @@
 pub mod Setting
-pub mod Entry
+pub mod Values
 pub mod Filling
+pub mod Tabling

@@ -27,7 +27,7 @@ bits-none : (flip s : ℕ → Bool) (k : ℕ) → setBits flip s [] k ≡ s
 unfolding setBits
 bits-none flip s k = refl
 
-stored-bit : (l : List ℕ) (x v : ℕ) (b : Bool) → x < length l → v ≡ bit b → envOf (set l x v) ≡ (λ p. pick (eqb p x) b (envOf l p))
+stored-bit : (l : List ℕ) (x v : ℕ) (b : Bool) → x < length l → v ≡ bit b → _≡_ {A = ℕ → Bool} (envOf (set l x v)) (λ p. pick (eqb p x) b (envOf l p))
 stored-bit l x v b h e = fun-ext at
   where
     at : (p : ℕ) → envOf (set l x v) p ≡ pick (eqb p x) b (envOf l p)
@@ -57,8 +57,8 @@ placing-more flips vars k pins i left x v a c b h hx z ex ea ec eb ev =
     value : b ≡ xor (envOf flips (getD vars i 0)) (on (left % 2))
     value = eb ∙ ap₂ xor (ea ∙ ap (envOf flips) ex) ec
 
-    same : (λ (p : ℕ). pick (eqb p x) b (envOf pins p)) ≡ (λ p. pick (eqb p (getD vars i 0)) (xor (envOf flips (getD vars i 0)) (on (left % 2))) (envOf pins p))
-    same = ap₂ (λ (y : ℕ) (d : Bool) (p : ℕ). pick (eqb p y) d (envOf pins p)) ex value
+    same : _≡_ {A = ℕ → Bool} (λ p. pick (eqb p x) b (envOf pins p)) (λ p. pick (eqb p (getD vars i 0)) (xor (envOf flips (getD vars i 0)) (on (left % 2))) (envOf pins p))
+    same = λ y. λ p. pick (eqb p (ex y)) (value y) (envOf pins p)
 
 pub placing-end : (flips vars : List ℕ) (k : ℕ) (pins : List ℕ) (i left : ℕ) → length vars ≤ i → Placing flips vars k pins i left → envOf pins ≡ setBits (envOf flips) (envOf flips) vars k
 placing-end flips vars k pins i left h c =

@@ -1,3 +1,3 @@
 pub mod Tables
 pub mod Memory
-pub mod Answer
+pub mod Answered

@@ -19,7 +19,7 @@ ghost use Rattle.meaning.specs.Circuit.{outAt};
 ghost use Rattle.meaning.specs.Settle.{Ordered, rankIn};
 ghost use Rattle.tables.specs.Tables.{flipAt, setBits, settingAt, outcome, tabled, tableIn};
 ghost use Rattle.tables.specs.Memory.{InOrder, Pins};
-ghost use Rattle.tables.specs.Answer.{seen};
+ghost use Rattle.tables.specs.Answered.{seen};
 
 // How many variables a table has and which of the 22, or where the name is declared whose equation names too many pins.
 pub enum Answer {
@@ -181,7 +181,15 @@ fn result(parts: &[u32], rows: bool, o: usize, pins: &[u8; 24], vals: &[u8; 64])
 }
 
 // Entry k of the table of o.
-fn entry(parts: &[u32], order: &[u8], flips: [u8; 24], vars: &[u8], rows: bool, o: usize, k: usize) -> bool
+fn entry(
+    parts: &[u32],
+    order: &[u8],
+    flips: [u8; 24],
+    vars: &[u8],
+    rows: bool,
+    o: usize,
+    k: usize,
+) -> bool
     requires { ⌜ stageFive (elementsOf (now parts)) ≡ fine ⌝ }
     requires { ⌜ InOrder (elementsOf (now parts)) (now order) ⌝ }
     requires { ⌜ flips ≡ listed (λ p. bit (flipAt (elementsOf (now parts)) rows p)) 24 ⌝ }
@@ -195,7 +203,16 @@ fn entry(parts: &[u32], order: &[u8], flips: [u8; 24], vars: &[u8], rows: bool, 
 }
 
 // The table of o over the variables.
-fn fill(t: &mut [u8], size: usize, parts: &[u32], order: &[u8], flips: [u8; 24], vars: &[u8], rows: bool, o: usize)
+fn fill(
+    t: &mut [u8],
+    size: usize,
+    parts: &[u32],
+    order: &[u8],
+    flips: [u8; 24],
+    vars: &[u8],
+    rows: bool,
+    o: usize,
+)
     requires { ⌜ stageFive (elementsOf (now parts)) ≡ fine ⌝ }
     requires { ⌜ InOrder (elementsOf (now parts)) (now order) ⌝ }
     requires { ⌜ flips ≡ listed (λ p. bit (flipAt (elementsOf (now parts)) rows p)) 24 ⌝ }
@@ -242,7 +259,9 @@ fn table(parts: &[u32], rows: bool, o: usize, t: &mut [u8]) -> Answer
     let n = c.count;
     let mask = c.mask;
     if n > 10 {
-        return Answer::TooMany { place: trees::at(parts, trees::PLACE_AT + o) };
+        return Answer::TooMany {
+            place: trees::at(parts, trees::PLACE_AT + o),
+        };
     }
     tabulate(t, power(n), parts, &m, &vars[0..n], rows, o);
     Answer::Table { count: n, mask }

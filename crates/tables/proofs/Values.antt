@@ -58,8 +58,8 @@ unfolding showsNext
 shown-is e o v s a c q r ev ea ec eq er = er ∙ ap₂ (λ (f : ℕ → Bool) (b : Bool). valueOf f b (e .nodes o)) ev (eq ∙ ap₂ xor ea ec)
 
 -- the order that was found
-pub in-order : (e : Elements) (m ranks out : List ℕ) (n : ℕ) → Matrix m (via (uses e) 64) → ranks ≡ listed (rankIn m) 64 → Ordered e ranks out n → InOrder e (take n out)
-in-order e m ranks out n mx er o = record { meets = m; closed = mx; says = o .says ∙ ap (λ (l : List ℕ). orderOf e l 4160) er }
+pub in-order : (e : Elements) (m ranks out : List ℕ) (n : ℕ) → Matrix m (via (uses e) 64) → ranks ≡ listed (rankIn m) 64 → Ordered e ranks out n → (k : ℕ) → k ≡ n → InOrder e (take k out)
+in-order e m ranks out n mx er o k q = record { meets = m; closed = mx; says = ap (λ (j : ℕ). take j out) q ∙ o .says ∙ ap (λ (l : List ℕ). orderOf e l 4160) er }
 
 -- variables are pins below 24
 below : (l r : List ℕ) → ((k : ℕ) → getD l k 0 < 24) → (x : ℕ) → x < 24 → (k : ℕ) → getD (l ++ (x ∷ [])) k 0 < 24
