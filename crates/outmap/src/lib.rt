@@ -35,7 +35,7 @@ fn is_first(parts: &[u32], i: usize) -> bool
     false
 }
 
-// The turn of OUT i: the number of its refusal, or 0 with its products, their count and S0 in its cell's entries.
+// The turn of element i: 0, and for an OUT its products, their count and S0 in its cell's entries; or the number of its refusal.
 fn take_out(
     parts: &[u32],
     i: usize,
@@ -46,7 +46,6 @@ fn take_out(
 ) -> u8
     requires { ⌜ stageFive (elementsOf (now parts)) ≡ fine ⌝ }
     requires { ⌜ i < 64 ⌝ }
-    requires { ⌜ elementsOf (now parts) .class i ≡ 2 ⌝ }
     requires { ⌜ 59049 ≤ length (now room) ⌝ }
     requires { ⌜ now room ≡ replicate (length (now room)) 0 ⌝ }
     ensures { λ r. ⌜ r ≡ numberOf (elementsOf (now (parts .entry))) i ⌝ }
@@ -55,6 +54,9 @@ fn take_out(
     ensures { λ _. ⌜ now (counts .exit) ≡ placed (elementsOf (now (parts .entry))) i (now (counts .entry)) (fittedOut (elementsOf (now (parts .entry))) i .n) ⌝ }
     ensures { λ _. ⌜ now (s0s .exit) ≡ placed (elementsOf (now (parts .entry))) i (now (s0s .entry)) (bit (fittedOut (elementsOf (now (parts .entry))) i .s0)) ⌝ }
 {
+    if reach::class_of(parts, i) != 2 {
+        return 0;
+    }
     let t = outputs::try_out(parts, i, room);
     let number = t.number;
     let s0 = t.s0;
@@ -93,14 +95,12 @@ fn fit_all(
 {
     let mut i: usize = 0;
     while i < 64 {
-        if reach::class_of(parts, i) == 2 {
-            let number = take_out(parts, i, room, all, counts, s0s);
-            if number != 0 {
-                return Sixth::Refused {
-                    number,
-                    place: trees::at(parts, trees::PLACE_AT + i),
-                };
-            }
+        let number = take_out(parts, i, room, all, counts, s0s);
+        if number != 0 {
+            return Sixth::Refused {
+                number,
+                place: trees::at(parts, trees::PLACE_AT + i),
+            };
         }
         i += 1;
     }
