@@ -2,19 +2,19 @@
 use mathlib.Core.Path.{_≡_, refl, sym, ap, ap₂, _∙_}
 use mathlib.Core.Bool.{Bool, true, false, not, _&&_, _||_}
 use mathlib.Core.List.{List, [], _∷_, map}
-use Prim.Native.Nat.{ℕ, zero, suc, _+_, _-_, _<_}
+use Prim.Native.Nat.{ℕ, zero, suc, _+_, _-_}
 use native.Mathlib.Omega.{arith}
 use lib.ListN.{length, getD, replicate}
 use lib.Seq.{ext-getD}
 use borrow.Author.Tests.{lt-ltb}
 use Rattle.basics.specs.Choice.{bit, on}
-use Rattle.basics.specs.Below.{anyBelow, listed}
+use Rattle.basics.specs.Below.{listed}
 use Rattle.basics.proofs.Truth.{clash}
 use Rattle.basics.proofs.Folds.{listed-at, listed-length, any-none}
 use Rattle.trees.specs.Layout.{Elements}
-use Rattle.meaning.specs.Circuit.{circuitOf, shows, clocked, runFrom, runs}
+use Rattle.meaning.specs.Circuit.{circuitOf, clocked, runFrom, runs}
 use Rattle.gal.specs.Refuse.{callers, wrong, wrongPins}
-use Rattle.gal.specs.Model.{modelled, runFrom as modelFrom, runs as modelRuns}
+use Rattle.gal.specs.Model.{runFrom as modelFrom, runs as modelRuns}
 use Rattle.outputs.specs.Outputs.{mapFor}
 use Rattle.agree.specs.Passed.{Passed}
 use Rattle.agree.specs.Pins.{isCallers, pinsFor, Cycle, seen, seenOf}

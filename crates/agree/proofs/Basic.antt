@@ -1,16 +1,15 @@
 -- Small laws of tests, of the first number that passes, and of bits. Assumes nothing.
-use mathlib.Core.Path.{_≡_, refl, sym, ap, ap₂, _∙_, subst}
-use mathlib.Core.Logic.{_⊎_, inl, inr, ⊎-elim}
-use mathlib.Core.Bool.{Bool, true, false, not, _&&_, _||_}
-use mathlib.Core.List.{List, [], _∷_}
-use Prim.Native.Nat.{ℕ, zero, suc, _+_, _-_, _≤_, _<_}
+use mathlib.Core.Path.{_≡_, refl, sym}
+use mathlib.Core.Logic.{⊎-elim}
+use mathlib.Core.Bool.{Bool, true, false, not, _&&_}
+use Prim.Native.Nat.{ℕ, zero, suc, _<_}
 use native.Mathlib.Omega.{arith}
-use lib.Dec.{T, eqb, ltb}
+use lib.Dec.{T, ltb}
 use lib.ListN.{getD}
 use borrow.Author.Tests.{ltb-true}
 use Rattle.basics.specs.Choice.{pick, xor}
 use Rattle.basics.specs.Below.{anyBelow}
-use Rattle.basics.proofs.Truth.{clash, or-cases, of-true, true-of}
+use Rattle.basics.proofs.Truth.{clash, or-cases, true-of}
 use Rattle.circuit.specs.StageFive.{firstBelow}
 use Rattle.outputs.specs.Outputs.{ten}
 

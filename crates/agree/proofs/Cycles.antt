@@ -1,25 +1,23 @@
 -- One cycle: the model of the map shows and holds what the circuit does. Assumes nothing.
-use mathlib.Core.Path.{_≡_, refl, sym, ap, ap₂, _∙_, subst}
-use mathlib.Core.Logic.{_⊎_, inl, inr, ⊎-elim}
+use mathlib.Core.Path.{_≡_, refl, sym, ap, ap₂, _∙_}
+use mathlib.Core.Logic.{_⊎_, inl, inr}
 use mathlib.Core.Bool.{Bool, true, false, not, _&&_, _||_}
-use mathlib.Core.List.{List, [], _∷_}
-use Prim.Native.Nat.{ℕ, zero, suc, _+_, _-_, _≤_, _<_}
+use mathlib.Core.List.{List}
+use Prim.Native.Nat.{ℕ, _+_, _-_, _<_}
 use native.Mathlib.Omega.{arith}
-use lib.Dec.{T, eqb, ltb}
+use lib.Dec.{eqb, ltb}
 use lib.ListN.{length, getD}
 use borrow.Author.Tests.{lt-ltb, ltb-true}
 use Rattle.basics.specs.Choice.{bit, on, pick, xor}
-use Rattle.basics.specs.Below.{listed, anyBelow}
+use Rattle.basics.specs.Below.{listed}
 use Rattle.basics.proofs.Folds.{listed-at, listed-length, listed-same}
-use Rattle.basics.proofs.Truth.{clash, and-false}
+use Rattle.basics.proofs.Truth.{clash}
 use Rattle.trees.specs.Layout.{Elements}
 use Rattle.trees.proofs.Stack.{on-bit}
 use Rattle.reach.specs.Uses.{registers, inverts}
-use Rattle.meaning.specs.Meaning.{takesNext}
 use Rattle.meaning.specs.Circuit.{outAt, circuitOf, settingOf, shows, clocked}
 use Rattle.tables.specs.Tables.{flipAt}
 use Rattle.device.specs.Device.{columnOf, pairOf}
-use Rattle.rows.specs.Setting.{settingOf as variablesFor}
 use Rattle.rows.proofs.Rows.{setting-at, setting-size}
 use Rattle.gal.specs.Map.{isCell, enabled, registered}
 use Rattle.gal.specs.Refuse.{callers, wrong, wrongPins, wrongBits, noValues}
@@ -31,9 +29,9 @@ use Rattle.behave.proofs.Emitted.{none-of}
 use Rattle.behave.proofs.Behaves.{held-is, use-is, behaves}
 use Rattle.outputs.specs.Outputs.{outOf, kindOf, cellsOf, masksOf, countsOf, kindsOf, s0sOf, mapFor}
 use Rattle.agree.specs.Passed.{Passed}
-use Rattle.agree.specs.Pins.{pinsAt, isCallers, pinsFor, Cycle, seen, seenOf}
+use Rattle.agree.specs.Pins.{pinsAt, isCallers, pinsFor, seen, seenOf}
 use Rattle.agree.proofs.Basic.{under, and-first, and-second, twice}
-use Rattle.agree.proofs.Positions.{isIn, Out, out-is, out-cell}
+use Rattle.agree.proofs.Positions.{isIn, out-cell}
 use Rattle.agree.proofs.Fitting.{cell-pin, use-at, holds-at, fits, grounded}
 use Rattle.agree.proofs.Columns.{Column}
 use Rattle.agree.proofs.Functions.{spoken-column, next-same, next-is}
@@ -110,7 +108,7 @@ module _ (e : Elements) (ok : Passed e) where
       ap on (listed-at (λ i. bit (isCallers e (i + 1) && ins (i + 1))) 24 (p - 1) (omega arith))
       ∙ on-bit (isCallers e (p - 1 + 1) && ins (p - 1 + 1))
       ∙ ap (λ (x : ℕ). isCallers e x && ins x) y
-      ∙ go (ltb 1 p && ltb p 12) (eqb p 13) (isCell p && not (circuitOf e .out p)) t
+      ∙ go (ltb 1 p && ltb p 12) (eqb p 13) _ t
     where
       go : (a b d : Bool) → (a || b) ≡ true → ((a || (b || d)) && ins p) ≡ ins p
       go true b d q = refl
@@ -185,7 +183,7 @@ module _ (e : Elements) (ok : Passed e) where
   unfolding callers isCallers mapFor
   callers-are x =
       ap (λ (b : Bool). (ltb 1 x && ltb x 12) || (eqb x 13 || b))
-      (under (isCell x) (not (enabled (mapFor e) (23 - x)) && not (registered (mapFor e) (23 - x))) (not (circuitOf e .out x))
+      (under (isCell x) (not (enabled (mapFor e) (23 - x)) && not (registered (mapFor e) (23 - x))) _
       (λ c.
       let b = ltb-true 13 x (and-first (ltb 13 x) (ltb x 24) c) in
       let u = use-is (cellsOf e) (masksOf e) (countsOf e) (kindsOf e) (s0sOf e) (fits e ok) (23 - x) (omega arith) ∙ use-at e x c in

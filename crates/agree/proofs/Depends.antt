@@ -1,13 +1,13 @@
 -- What an OUT takes next depends on the pins that its equation names, and on no others. Assumes nothing.
-use mathlib.Core.Path.{_≡_, refl, sym, ap, ap₂, _∙_, subst}
-use mathlib.Core.Logic.{_⊎_, inl, inr, ⊎-elim}
+use mathlib.Core.Path.{_≡_, refl, sym, ap, ap₂, _∙_}
+use mathlib.Core.Logic.{⊎-elim}
 use mathlib.Core.Bool.{Bool, true, false, not, _&&_, _||_}
 use mathlib.Core.List.{List, [], _∷_}
-use Prim.Native.Nat.{ℕ, zero, suc, _+_, _-_, _≤_, _<_}
+use Prim.Native.Nat.{ℕ, zero, suc, _-_, _≤_, _<_}
 use native.Mathlib.Omega.{arith}
 use lib.Dec.{T, eqb, ltb}
 use lib.ListN.{length, getD, drop}
-use borrow.Author.Tests.{lt-ltb, le-ltb, ltb-true, eqb-true, eq-eqb}
+use borrow.Author.Tests.{lt-ltb, ltb-true, eq-eqb}
 use Rattle.basics.specs.Choice.{pick, xor}
 use Rattle.basics.specs.Below.{anyBelow}
 use Rattle.basics.proofs.Truth.{clash, of-true, true-of, or-cases, or-l, or-r, and-i, and-l, and-r}
@@ -15,16 +15,14 @@ use Rattle.basics.proofs.Store.{below-or-not}
 use Rattle.basics.proofs.Folds.{any-hit}
 use Rattle.trees.specs.Machine.{run, step, gate, nodeValue, arity, valueOf}
 use Rattle.trees.specs.Layout.{Elements}
-use Rattle.reach.specs.Uses.{isReg, fromEnd, registers, inverts, keeps, names, remains, replaced, writes, uses}
+use Rattle.reach.specs.Uses.{isReg, fromEnd, inverts, keeps, names, remains, replaced, writes, uses}
 use Rattle.reach.specs.Reach.{via}
 use Rattle.reach.proofs.Warshall.{edge-via, via-through}
 use Rattle.circuit.specs.Placed.{placedN}
 use Rattle.meaning.specs.Meaning.{known, value, meaning, showsNext, takesNext}
-use Rattle.meaning.proofs.Unique.{value-same, value-suc, value-leaf}
+use Rattle.meaning.proofs.Unique.{value-same, value-leaf}
 use Rattle.pins.specs.Named.{mentions, mentionsAt, namesPin}
-use Rattle.agree.specs.Passed.{Passed}
-use Rattle.agree.proofs.Basic.{Some, any-some, under, and-first, and-second}
-use Rattle.agree.proofs.Positions.{right-placed}
+use Rattle.agree.proofs.Basic.{any-some, under, and-first, and-second}
 
 -- ---- a REG of two parts is where keeps finds it
 

@@ -1,10 +1,10 @@
 -- The arrays of a module that stages 5 and 6 let pass hold what its cells are fitted to, and its cells speak of inputs and registers only.
 -- Assumes nothing.
 use mathlib.Core.Path.{_≡_, refl, sym, ap, ap₂, _∙_, subst}
-use mathlib.Core.Logic.{_⊎_, inl, inr, ⊎-elim}
+use mathlib.Core.Logic.{_⊎_, inl, inr}
 use mathlib.Core.Bool.{Bool, true, false, not, _&&_, _||_}
-use mathlib.Core.List.{List, [], _∷_}
-use Prim.Native.Nat.{ℕ, zero, suc, _+_, _-_, _≤_, _<_}
+use mathlib.Core.List.{[]}
+use Prim.Native.Nat.{ℕ, _-_, _<_}
 use native.Mathlib.Omega.{arith}
 use lib.Dec.{T, eqb, ltb}
 use lib.ListN.{getD}
@@ -18,18 +18,17 @@ use Rattle.circuit.specs.StageFive.{Verdict, firstBelow}
 use Rattle.circuit.specs.StageFive.Verdict.{fine, refused}
 use Rattle.meaning.specs.Circuit.{outAt, circuitOf}
 use Rattle.pins.specs.Variables.{variablePin, namesVariable, maskOf}
-use Rattle.cover.specs.Sum.{bitsOf}
 use Rattle.engine.specs.Table.{function}
 use Rattle.device.specs.Device.{columnOf}
 use Rattle.fit.specs.Fit.{fitted, refused as noProducts}
 use Rattle.fit.specs.declared.Fitted.{Fitted}
 use Rattle.gal.specs.Map.{isCell}
-use Rattle.behave.specs.Circuit.{Kind, code, inUse, holds, Fits, Grounded, spoken}
+use Rattle.behave.specs.Circuit.{code, inUse, holds, Fits, Grounded, spoken}
 use Rattle.behave.specs.Circuit.Kind.{unused, combinational, registered}
 use Rattle.outputs.specs.Outputs.{outOf, kindOf, tableOf, cellsOf, fittedOut, tooMany, misfits, stageSix, cellOf, masksOf, countsOf, kindsOf, s0sOf}
 use Rattle.agree.specs.Passed.{Passed}
 use Rattle.agree.proofs.Basic.{ten-at, and-first, and-second, not-false}
-use Rattle.agree.proofs.Positions.{isIn, none-first, Out, out-is, out-cell}
+use Rattle.agree.proofs.Positions.{isIn, none-first, out-is, out-cell}
 use Rattle.agree.proofs.Bits.{bit-at}
 use Rattle.agree.proofs.Speaking.{named-is}
 

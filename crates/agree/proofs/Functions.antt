@@ -1,15 +1,14 @@
 -- The function of a cell over the twenty-two variables is what its OUT takes next, where the pins have the values that the variables give them.
 -- Assumes nothing.
-use mathlib.Core.Path.{_≡_, refl, sym, ap, ap₂, _∙_, subst}
-use mathlib.Core.Logic.{_⊎_, inl, inr, ⊎-elim}
-use mathlib.Core.Bool.{Bool, true, false, not, _&&_, _||_}
-use mathlib.Core.List.{List, [], _∷_}
-use Prim.Native.Nat.{ℕ, zero, suc, _+_, _-_, _^_, _≤_, _<_}
+use mathlib.Core.Path.{_≡_, sym, ap, _∙_, subst}
+use mathlib.Core.Logic.{_⊎_, inl, inr}
+use mathlib.Core.Bool.{Bool, true, false, _&&_}
+use mathlib.Core.List.{List}
+use Prim.Native.Nat.{ℕ, _-_, _^_}
 use native.Mathlib.Omega.{arith}
-use lib.Dec.{T, eqb, ltb}
+use lib.Dec.{T, ltb}
 use lib.ListN.{length, getD}
-use Rattle.basics.specs.Choice.{bit, on, pick, xor}
-use Rattle.basics.specs.Below.{listed}
+use Rattle.basics.specs.Choice.{bit, on, xor}
 use Rattle.basics.proofs.Folds.{listed-at}
 use Rattle.basics.proofs.Truth.{true-of}
 use Rattle.trees.specs.Layout.{Elements}
@@ -21,13 +20,12 @@ use Rattle.pins.specs.Named.{namesPin}
 use Rattle.pins.specs.Variables.{variablePin, namesVariable, variablesOf, countOf}
 use Rattle.tables.specs.Tables.{flipAt, settingAt, entryOf}
 use Rattle.device.specs.Device.{pairOf}
-use Rattle.gal.specs.Map.{isCell}
 use Rattle.behave.specs.Circuit.{inUse, value}
 use Rattle.outputs.specs.Outputs.{outOf, kindOf, tableOf, cellsOf}
 use Rattle.agree.specs.Passed.{Passed}
 use Rattle.agree.specs.Pins.{pinsAt}
 use Rattle.agree.proofs.Basic.{and-first}
-use Rattle.agree.proofs.Positions.{isIn, Out, out-is, out-cell, right-placed}
+use Rattle.agree.proofs.Positions.{isIn, out-is, out-cell, right-placed}
 use Rattle.agree.proofs.Bits.{numberIn, number-small, set-at}
 use Rattle.agree.proofs.Speaking.{named-is}
 use Rattle.agree.proofs.Depends.{takes-same}

@@ -1,4 +1,5 @@
 pub mod Basic
+pub mod Giving
 pub mod Positions
 pub mod Bits
 pub mod Speaking

@@ -2,24 +2,21 @@
 use mathlib.Core.Path.{_≡_, refl, sym, ap, ap₂, _∙_, subst}
 use mathlib.Core.Logic.{_⊎_, inl, inr, ⊎-elim}
 use mathlib.Core.Bool.{Bool, true, false, not, _&&_, _||_}
-use mathlib.Core.List.{List, [], _∷_}
-use Prim.Native.Nat.{ℕ, zero, suc, _+_, _-_, _≤_, _<_}
+use Prim.Native.Nat.{ℕ, zero, suc, _≤_, _<_}
 use native.Mathlib.Omega.{arith}
-use lib.Dec.{T, eqb, ltb}
-use borrow.Author.Tests.{ltb-true, ltb-false, lt-ltb, le-ltb, eq-eqb, eqb-true}
+use lib.Dec.{eqb, ltb}
+use borrow.Author.Tests.{ltb-true, lt-ltb, le-ltb, eq-eqb, eqb-true}
 use Rattle.basics.specs.Choice.{pick}
-use Rattle.basics.proofs.Truth.{clash, of-true, true-of}
+use Rattle.basics.proofs.Truth.{clash}
 use Rattle.basics.specs.Below.{allBelow}
 use Rattle.basics.proofs.Folds.{all-at}
 use Rattle.basics.proofs.Store.{below-or-not}
 use Rattle.trees.specs.Layout.{Elements}
-use Rattle.reach.specs.Uses.{registers, inverts, remains}
 use Rattle.circuit.specs.Pins.{roleOf}
 use Rattle.circuit.specs.Placed.{placedN, plainN}
-use Rattle.circuit.specs.StageFive.{positionedRight, mispositioned, misplaced, firstBelow, stageFive}
-use Rattle.circuit.specs.StageFive.Verdict.{fine}
+use Rattle.circuit.specs.StageFive.{positionedRight, mispositioned, misplaced, firstBelow}
 use Rattle.circuit.proofs.First.{first-is}
-use Rattle.meaning.specs.Circuit.{outAt, circuitOf}
+use Rattle.meaning.specs.Circuit.{outAt}
 use Rattle.meaning.proofs.Fine.{Fine, fine-is}
 use Rattle.gal.specs.Map.{isCell}
 use Rattle.agree.specs.Passed.{Passed}
@@ -70,12 +67,17 @@ unfolding mispositioned
 right e i q (inl c) = not-false _ (sym (ap (λ (k : ℕ). pick (eqb k 1) (not (positionedRight e i)) (pick (eqb k 2) (not (positionedRight e i)) (pick (eqb k 3) (not (eqb (e .positioned i) 0)) false))) c) ∙ q)
 right e i q (inr c) = not-false _ (sym (ap (λ (k : ℕ). pick (eqb k 1) (not (positionedRight e i)) (pick (eqb k 2) (not (positionedRight e i)) (pick (eqb k 3) (not (eqb (e .positioned i) 0)) false))) c) ∙ q)
 
-role : (e : Elements) (i : ℕ) → positionedRight e i ≡ true → roleOf (e .pin i) ≡ e .class i
+-- what a right position is
+record Right (e : Elements) (i : ℕ) : Type 0 where
+  role : roleOf (e .pin i) ≡ e .class i
+  once : e .given (e .pin i) ≡ 1
+
+right-is : (e : Elements) (i : ℕ) → positionedRight e i ≡ true → Right e i
 unfolding positionedRight
-role e i q = go (eqb (e .positioned i) 1) (e .miscounted i) (eqb (roleOf (e .pin i)) (e .class i)) refl q
+right-is e i q = go (eqb (e .positioned i) 1) (e .miscounted i) (eqb (roleOf (e .pin i)) (e .class i)) refl q
   where
-    go : (a b c : Bool) → eqb (roleOf (e .pin i)) (e .class i) ≡ c → pick (not a) false (pick b false (pick (not c) false (eqb (e .given (e .pin i)) 1))) ≡ true → roleOf (e .pin i) ≡ e .class i
-    go true false true z t = eqb-true _ _ z
+    go : (a b c : Bool) → eqb (roleOf (e .pin i)) (e .class i) ≡ c → pick (not a) false (pick b false (pick (not c) false (eqb (e .given (e .pin i)) 1))) ≡ true → Right e i
+    go true false true z t = record { role = eqb-true _ _ z; once = eqb-true _ _ t }
     go true false false z t = absurd (clash (sym t))
     go true true c z t = absurd (clash (sym t))
     go false b c z t = absurd (clash (sym t))
@@ -87,10 +89,10 @@ module _ (e : Elements) (ok : Passed e) where
   fine-all = fine-is e (ok .five)
 
   pub right-in : (i : ℕ) → i < 64 → e .class i ≡ 1 → isIn (e .pin i) ≡ true
-  right-in i h c = role-in (e .pin i) (role e i (right e i (fine-all .positioned i h) (inl c)) ∙ c)
+  right-in i h c = role-in (e .pin i) (right-is e i (right e i (fine-all .positioned i h) (inl c)) .role ∙ c)
 
   pub right-out : (i : ℕ) → i < 64 → e .class i ≡ 2 → isCell (e .pin i) ≡ true
-  right-out i h c = role-out (e .pin i) (role e i (right e i (fine-all .positioned i h) (inr c)) ∙ c)
+  right-out i h c = role-out (e .pin i) (right-is e i (right e i (fine-all .positioned i h) (inr c)) .role ∙ c)
 
   -- its REG stands where it may
   pub right-placed : (i : ℕ) → i < 64 → e .class i ≡ 2 → placedN (e .nodes i) ≡ true
@@ -132,7 +134,5 @@ module _ (e : Elements) (ok : Passed e) where
   pub out-own : (i : ℕ) → i < 64 → e .class i ≡ 2 → outAt e (e .pin i) ≡ i
   out-own i h c =
       let o = out-is (e .pin i) (there i h c) in
-      ok .apart (outAt e (e .pin i)) i (o .small) h
-      (of-true _ (right e (outAt e (e .pin i)) (fine-all .positioned (outAt e (e .pin i)) (o .small)) (inr (o .class))))
-      (of-true _ (right e i (fine-all .positioned i h) (inr c)))
-      (o .pin)
+      let w = right-is e (outAt e (e .pin i)) (right e (outAt e (e .pin i)) (fine-all .positioned (outAt e (e .pin i)) (o .small)) (inr (o .class))) in
+      ok .apart (outAt e (e .pin i)) i (o .small) h (w .once) (o .pin)

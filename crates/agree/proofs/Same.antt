@@ -1,11 +1,10 @@
 -- Demand 3 over the elements of two modules: they have the same map exactly if they are the same circuit. Assumes nothing.
-use mathlib.Core.Path.{_≡_, refl, sym, ap, ap₂, _∙_, subst, fun-ext}
-use mathlib.Core.Logic.{_⊎_, inl, inr, ⊎-elim}
-use mathlib.Core.Bool.{Bool, true, false, not, _&&_, _||_}
-use mathlib.Core.List.{List, [], _∷_}
-use Prim.Native.Nat.{ℕ, zero, suc, _+_, _-_, _≤_, _<_}
+use mathlib.Core.Path.{_≡_, refl, sym, ap, ap₂, _∙_, fun-ext}
+use mathlib.Core.Bool.{Bool, true, false, not, _&&_}
+use mathlib.Core.List.{List}
+use Prim.Native.Nat.{ℕ, _-_, _<_}
 use native.Mathlib.Omega.{arith}
-use lib.Dec.{T, eqb, ltb}
+use lib.Dec.{ltb}
 use lib.ListN.{length, getD}
 use borrow.Author.Tests.{ltb-true}
 use Rattle.basics.specs.Choice.{bit, on, pick, xor}
@@ -22,17 +21,17 @@ use Rattle.device.specs.Device.{columnOf, pairOf}
 use Rattle.rows.specs.Setting.{settingOf as variablesFor}
 use Rattle.rows.proofs.Rows.{setting-at, setting-size}
 use Rattle.gal.specs.Map.{isCell}
-use Rattle.behave.specs.Circuit.{Kind, inUse, holds, value, shownOf, Same}
+use Rattle.behave.specs.Circuit.{Kind, inUse, holds, value, Same}
 use Rattle.behave.specs.Circuit.Kind.{unused, combinational, registered}
 use Rattle.behave.proofs.Behaves.{held-used}
 use Rattle.behave.proofs.Canon.{same-map, same-circuit}
 use Rattle.outputs.specs.Outputs.{outOf, kindOf, cellsOf, masksOf, countsOf, kindsOf, s0sOf, mapFor}
 use Rattle.agree.specs.Passed.{Passed}
 use Rattle.agree.specs.Pins.{pinsAt}
-use Rattle.agree.proofs.Basic.{under, and-first, and-second, twice, xor-twice}
-use Rattle.agree.proofs.Positions.{isIn, out-cell}
+use Rattle.agree.proofs.Basic.{under, and-first, twice, xor-twice}
+use Rattle.agree.proofs.Positions.{out-cell}
 use Rattle.agree.proofs.Speaking.{inverts-registers}
-use Rattle.agree.proofs.Fitting.{kind-use, kind-holds, cell-pin, use-at, holds-at, fits}
+use Rattle.agree.proofs.Fitting.{kind-use, cell-pin, use-at, holds-at, fits}
 use Rattle.agree.proofs.Columns.{Column}
 use Rattle.agree.proofs.Functions.{spoken-column, next-same, function-is, next-is}
 use Rattle.agree.proofs.Cycles.{use-under, holds-under}

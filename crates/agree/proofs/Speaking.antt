@@ -1,21 +1,20 @@
 -- The pins that an equation names are those of INs and of registered OUTs. Assumes nothing.
 use mathlib.Core.Path.{_≡_, refl, sym, ap, ap₂, _∙_, subst}
 use mathlib.Core.Logic.{_⊎_, inl, inr, ⊎-elim}
-use mathlib.Core.Bool.{Bool, true, false, not, _&&_, _||_}
-use mathlib.Core.List.{List, [], _∷_}
-use Prim.Native.Nat.{ℕ, zero, suc, _+_, _-_, _≤_, _<_}
-use native.Mathlib.Omega.{arith}
+use mathlib.Core.Bool.{Bool, true, false, _&&_, _||_}
+use mathlib.Core.List.{List}
+use Prim.Native.Nat.{ℕ, _<_}
 use lib.Dec.{T, eqb, ltb}
 use borrow.Author.Tests.{lt-ltb, eqb-true}
 use Rattle.basics.specs.Choice.{pick}
 use Rattle.basics.specs.Below.{anyBelow}
-use Rattle.basics.proofs.Truth.{clash, of-true, true-of, or-cases, or-true, and-l, and-r}
+use Rattle.basics.proofs.Truth.{clash, true-of, or-cases, or-true, and-l, and-r}
 use Rattle.trees.specs.Layout.{Elements}
 use Rattle.reach.specs.Uses.{isReg, fromEnd, registers, inverts, keeps, remains}
-use Rattle.meaning.specs.Circuit.{outAt, circuitOf}
+use Rattle.meaning.specs.Circuit.{circuitOf}
 use Rattle.pins.specs.Named.{mentions, mentionsAt, namesPin}
 use Rattle.agree.specs.Passed.{Passed}
-use Rattle.agree.proofs.Basic.{Some, any-some, and-first, and-second}
+use Rattle.agree.proofs.Basic.{any-some, and-first, and-second}
 use Rattle.agree.proofs.Positions.{isIn, right-in, out-own}
 
 -- an equation that keeps its value has a register, and so has one that inverts it

@@ -1,16 +1,15 @@
 -- A module's elements that stages 5 and 6 let pass (document 01, "Refusal numbers"). Assumes nothing.
 use mathlib.Core.Path.{_≡_}
 use Prim.Native.Nat.{ℕ, _≤_, _<_}
-use lib.Dec.{T}
 use Rattle.trees.specs.Layout.{Elements}
-use Rattle.circuit.specs.StageFive.{positionedRight, stageFive}
+use Rattle.circuit.specs.StageFive.{stageFive}
 use Rattle.circuit.specs.StageFive.Verdict.{fine}
 use Rattle.outputs.specs.Outputs.{stageSix}
 
 pub record Passed (e : Elements) : Type 0 where
-  -- as they are read: there are 64 at most, and a pin that was given once is that of one element
+  -- as they are read: there are 64 at most, and a pin that was given once is that of one element (laws `few-read`, `apart-read`)
   pub few : (i : ℕ) → 64 ≤ i → e .class i ≡ 0
-  pub apart : (i j : ℕ) → i < 64 → j < 64 → T (positionedRight e i) → T (positionedRight e j) → e .pin i ≡ e .pin j → i ≡ j
+  pub apart : (i j : ℕ) → i < 64 → j < 64 → e .given (e .pin i) ≡ 1 → e .pin i ≡ e .pin j → i ≡ j
   -- none of the refusals 7 to 12
   pub five : stageFive e ≡ fine
   pub six : stageSix e ≡ fine
