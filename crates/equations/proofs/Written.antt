@@ -59,7 +59,7 @@ behind : (b : Bool) (x y z : State) (xs ys : List ℕ) → y ≡ writes b x xs �
 behind b x y z xs ys p q = q ∙ (ap (λ (w : State). writes b w ys) p ∙ writes-append b x xs ys)
 
 -- what a judgement writes: a node only for a counted signal
-abbrev Emits : ℕ → ℕ → Verdict → Type 0
+abbrev pub Emits : ℕ → ℕ → Verdict → Type 0
 Emits o c (number v) = eqb o 2 ≡ false
 Emits o c (node k) = (eqb o 2 ≡ true) × (k ≡ c)
 Emits o c (fault n p) = Unit {0}
@@ -71,7 +71,7 @@ emits-pick o c false j k f g = g refl
 not-two : (o n : ℕ) → (n ≡ 2 → ⊥) → eqb o n ≡ true → eqb o 2 ≡ false
 not-two o n z e = ne-eqb o 2 (λ q. z (sym (eqb-true o n e) ∙ q))
 
-emits-mark : (o c p : ℕ) → Emits o c (markOf o c p)
+pub emits-mark : (o c p : ℕ) → Emits o c (markOf o c p)
 unfolding markOf
 emits-mark o c p =
     emits-pick o c (eqb o 2) (node c) _ (λ e. (e, refl)) (λ e. emits-pick o c (eqb o 1) (fault 4 p) (number (pos 0)) (λ f. tt) (λ f. e))
@@ -79,17 +79,17 @@ emits-mark o c p =
 emits-mark-at : (o c d p : ℕ) → c ≡ d → Emits o d (markOf o c p)
 emits-mark-at o c d p q = subst (λ (k : ℕ). Emits o k (markOf o c p)) q (emits-mark o c p)
 
-emits-literal : (o c p v : ℕ) → Emits o c (literalOf o p v)
+pub emits-literal : (o c p v : ℕ) → Emits o c (literalOf o p v)
 unfolding literalOf
 emits-literal o c p v =
     emits-pick o c (eqb o 1) (number (pos v)) _ (λ e. not-two o 1 (λ z. omega arith) e) (λ e.
     emits-pick o c (eqb o 0) (number (pos 0)) (fault 4 p) (λ e. not-two o 0 (λ z. omega arith) e) (λ e. tt))
 
 -- a logic value's node
-abbrev logicCode : ℕ → ℕ
+abbrev pub logicCode : ℕ → ℕ
 logicCode v = pick (eqb v 0) 0 1
 
-emits-logic : (o p v : ℕ) → Emits o (logicCode v) (logicOf o p v)
+pub emits-logic : (o p v : ℕ) → Emits o (logicCode v) (logicOf o p v)
 unfolding logicOf
 emits-logic o p v =
     emits-pick o (logicCode v) (eqb v 0) (markOf o 0 p) (markOf o 1 p)
@@ -104,7 +104,7 @@ flat-logic v = go (eqb v 0)
     go false = refl
 
 -- a name's node
-abbrev nameCode : Meaning → ℕ
+abbrev pub nameCode : Meaning → ℕ
 nameCode (signal f n) = 9 + f
 nameCode (valued v) = 0
 nameCode nothing = 0
@@ -121,14 +121,14 @@ emits-plainOn o p (valued v) = emits-pick o 0 (eqb o 1) (number v) (fault 4 p) (
 emits-plainOn o p (signal f n) =
     emits-pick o (9 + f) (eqb o 1) (fault 4 p) _ (λ e. tt) (λ e. emits-pick o (9 + f) (eqb n 0) (markOf o (9 + f) p) (fault 5 p) (λ e. emits-mark o (9 + f) p) (λ e. tt))
 
-emits-plain : (s t : List ℕ) (o st e : ℕ) → Emits o (nameCode (meaningOf s t st e)) (plainOf s t o st e)
+pub emits-plain : (s t : List ℕ) (o st e : ℕ) → Emits o (nameCode (meaningOf s t st e)) (plainOf s t o st e)
 unfolding plainOf
 emits-plain s t o st e =
     emits-pick o (nameCode (meaningOf s t st e)) (eqb o 0) (number (pos 0)) (plainOn o st (meaningOf s t st e)) (λ f. not-two o 0 (λ z. omega arith) f)
     (λ f. emits-plainOn o st (meaningOf s t st e))
 
 -- an element's node
-abbrev elementCode : ℕ → ℤ → ℕ
+abbrev pub elementCode : ℕ → ℤ → ℕ
 elementCode f (pos i) = 9 + (f + i)
 elementCode f (negsuc i) = 0
 
@@ -142,13 +142,13 @@ emits-elementOn o st p f n (pos i) =
     emits-pick o (9 + (f + i)) (ltb i n) (markOf o (9 + (f + i)) st) (fault 5 p) (λ e. emits-mark o (9 + (f + i)) st) (λ e. tt)
 emits-elementOn o st p f n (negsuc i) = tt
 
-emits-element : (o st p f n : ℕ) (i : ℤ) → Emits o (elementCode f i) (elementOf o st p f n i)
+pub emits-element : (o st p f n : ℕ) (i : ℤ) → Emits o (elementCode f i) (elementOf o st p f n i)
 unfolding elementOf
 emits-element o st p f n i =
     emits-pick o (elementCode f i) (eqb o 0) (number (pos 0)) (elementOn o st p f n i) (λ e. not-two o 0 (λ z. omega arith) e) (λ e. emits-elementOn o st p f n i)
 
 -- an operator's node
-abbrev operatorCode : ℕ → ℕ
+abbrev pub operatorCode : ℕ → ℕ
 operatorCode k = pick (eqb k 43) 4 (pick (eqb k 45) 5 3)
 
 flat-joined : (k : ℕ) (a b : Tree) → flat (joined k a b) ≡ (flat a ++ flat b) ++ (operatorCode k ∷ [])
@@ -164,7 +164,7 @@ emits-answered : (o c p : ℕ) (a : Answer) → eqb o 2 ≡ false → Emits o c 
 emits-answered o c p (kept-number z) e = e
 emits-answered o c p broken e = tt
 
-emits-operator : (o k p : ℕ) (a b : ℤ) → Emits o (operatorCode k) (operatorOf o k p a b)
+pub emits-operator : (o k p : ℕ) (a b : ℤ) → Emits o (operatorCode k) (operatorOf o k p a b)
 unfolding operatorOf
 emits-operator o k p a b =
     emits-pick o (operatorCode k) (eqb o 0) (number (pos 0)) _ (λ e. not-two o 0 (λ z. omega arith) e) (λ e.
@@ -173,7 +173,7 @@ emits-operator o k p a b =
     emits-pick o (operatorCode k) (eqb k 45) (markOf o 5 p) _ (λ g. emits-mark-at o 5 (operatorCode k) p (rw (f, g) refl)) (λ g.
     emits-pick o (operatorCode k) (eqb k 42) (markOf o 3 p) (fault 4 p) (λ h. emits-mark-at o 3 (operatorCode k) p (rw (f, g) refl)) (λ h. tt)))))
 
-part-two : (o : ℕ) → eqb (partSort o) 2 ≡ eqb o 2
+pub part-two : (o : ℕ) → eqb (partSort o) 2 ≡ eqb o 2
 unfolding partSort
 part-two o = go (eqb o 1) refl
   where
@@ -181,7 +181,7 @@ part-two o = go (eqb o 1) refl
     go true e = sym (not-two o 1 (λ z. omega arith) e)
     go false e = refl
 
-index-two : (o : ℕ) → eqb (indexSort o) 2 ≡ false
+pub index-two : (o : ℕ) → eqb (indexSort o) 2 ≡ false
 unfolding indexSort
 index-two o = go (eqb o 0)
   where
