@@ -15,13 +15,12 @@ use Rattle.basics.proofs.Store.{below-or-not}
 use Rattle.basics.proofs.Folds.{any-hit}
 use Rattle.trees.specs.Machine.{run, step, gate, nodeValue, arity, valueOf}
 use Rattle.trees.specs.Layout.{Elements}
-use Rattle.reach.specs.Uses.{isReg, fromEnd, inverts, keeps, names, remains, replaced, writes, uses}
-use Rattle.reach.specs.Reach.{via}
-use Rattle.reach.proofs.Warshall.{edge-via, via-through}
+use Rattle.reach.specs.Uses.{isReg, fromEnd, inverts, keeps, names, remains, replaced, writes}
 use Rattle.circuit.specs.Placed.{placedN}
 use Rattle.meaning.specs.Meaning.{known, value, meaning, showsNext, takesNext}
 use Rattle.meaning.proofs.Unique.{value-same, value-leaf}
 use Rattle.pins.specs.Named.{mentions, mentionsAt, namesPin}
+use Rattle.pins.proofs.Resting.{mentions-written, mentions-next}
 use Rattle.agree.proofs.Basic.{any-some, under, and-first, and-second}
 
 -- ---- a REG of two parts is where keeps finds it
@@ -109,38 +108,17 @@ value-free env q r ns t f = go (keeps ns) refl
 
 -- ---- what is mentioned
 
+written-in : (e : Elements) (i j : ℕ) → j < 64 → T (names (e .nodes i) j) → T (writes e i j)
+unfolding writes
+written-in e i j h t = and-i (ltb j 64) (names (e .nodes i) j) (of-true _ (lt-ltb j 64 h)) t
+
 module _ (e : Elements) (few : (i : ℕ) → 64 ≤ i → e .class i ≡ 0) (o : ℕ) where
   -- what an equation writes is mentioned, and so is what a replaced element that is mentioned writes
   wrote : (j : ℕ) → j < 64 → T (names (e .nodes o) j) → T (mentions e o j)
-  unfolding mentions writes
-  wrote j h t =
-      or-l (ltb j 64 && names (e .nodes o) j) (anyBelow (λ k. (ltb k 64 && names (e .nodes o) k) && via (uses e) 64 k j) 64)
-      (and-i (ltb j 64) (names (e .nodes o) j) (of-true _ (lt-ltb j 64 h)) t)
+  wrote j h t = mentions-written e o j (written-in e o j h t)
 
-  used : (i j : ℕ) → j < 64 → T (replaced e i) → T (names (e .nodes i) j) → T (uses e i j)
-  unfolding uses writes
-  used i j h r t = and-i (replaced e i) (ltb j 64 && names (e .nodes i) j) r (and-i (ltb j 64) (names (e .nodes i) j) (of-true _ (lt-ltb j 64 h)) t)
-
-  wrote-small : (i : ℕ) → T (writes e o i) → i < 64
-  unfolding writes
-  wrote-small i t = ltb-true i 64 (true-of _ (and-l (ltb i 64) (names (e .nodes o) i) t))
-
-  passed-on : (i j : ℕ) → i < 64 → T (mentions e o i) → T (uses e i j) → T (mentions e o j)
-  unfolding mentions
-  passed-on i j h m u =
-      or-r (writes e o j) (anyBelow (λ k. writes e o k && via (uses e) 64 k j) 64)
-      (⊎-elim
-      (λ (w : T (writes e o i)). hit i h (and-i (writes e o i) (via (uses e) 64 i j) w (edge-via (uses e) 64 i j u)))
-      (λ (w : T (anyBelow (λ k. writes e o k && via (uses e) 64 k i) 64)).
-      let s = any-some (λ k. writes e o k && via (uses e) 64 k i) 64 w in
-      let k = s .one in
-      let p = of-true _ (s .passes) in
-      hit k (s .small) (and-i (writes e o k) (via (uses e) 64 k j) (and-l (writes e o k) (via (uses e) 64 k i) p)
-      (via-through (uses e) 64 i k j h (and-r (writes e o k) (via (uses e) 64 k i) p) (edge-via (uses e) 64 i j u))))
-      (or-cases (writes e o i) (anyBelow (λ k. writes e o k && via (uses e) 64 k i) 64) m))
-    where
-      hit : (k : ℕ) → k < 64 → T (writes e o k && via (uses e) 64 k j) → T (anyBelow (λ k. writes e o k && via (uses e) 64 k j) 64)
-      hit k l t = of-true _ (any-hit (λ k. writes e o k && via (uses e) 64 k j) 64 k l (true-of _ t))
+  passed-on : (i j : ℕ) → i < 64 → j < 64 → T (mentions e o i) → T (replaced e i) → T (names (e .nodes i) j) → T (mentions e o j)
+  passed-on i j h l m r n = mentions-next e o i j h m r (written-in e i j l n)
 
   remains-beyond : (i : ℕ) → 64 ≤ i → remains e i ≡ false
   unfolding remains
@@ -178,7 +156,7 @@ module _ (e : Elements) (few : (i : ℕ) → 64 ≤ i → e .class i ≡ 0) (o :
         each : ((k : ℕ) → k < 64 → T (mentions e o k) → value e s d k ≡ value e t d k) → T (replaced e j) → (k : ℕ) → T (names (e .nodes j) k) → value e s d k ≡ value e t d k
         each ih r k n =
             ⊎-elim
-            (λ (l : k < 64). ih k l (passed-on j k h m (used j k l r n)))
+            (λ (l : k < 64). ih k l (passed-on j k h l m r n))
             (λ (l : 64 ≤ k). value-leaf e s d k (replaced-beyond k l) ∙ known-beyond k l ∙ sym (value-leaf e t d k (replaced-beyond k l)))
             (below-or-not k 64)
 

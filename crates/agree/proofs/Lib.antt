@@ -1,5 +1,5 @@
 pub mod Basic
-pub mod Giving
+pub mod Reading
 pub mod Positions
 pub mod Bits
 pub mod Speaking

@@ -18,6 +18,7 @@ use Rattle.circuit.specs.StageFive.{positionedRight, mispositioned, misplaced, 
 use Rattle.circuit.proofs.First.{first-is}
 use Rattle.meaning.specs.Circuit.{outAt}
 use Rattle.meaning.proofs.Fine.{Fine, fine-is}
+use Rattle.meaning.proofs.Standing.{right-role, out-at}
 use Rattle.gal.specs.Map.{isCell}
 use Rattle.agree.specs.Passed.{Passed}
 use Rattle.agree.proofs.Basic.{first-passes, and-first, and-second, not-false}
@@ -67,21 +68,6 @@ unfolding mispositioned
 right e i q (inl c) = not-false _ (sym (ap (λ (k : ℕ). pick (eqb k 1) (not (positionedRight e i)) (pick (eqb k 2) (not (positionedRight e i)) (pick (eqb k 3) (not (eqb (e .positioned i) 0)) false))) c) ∙ q)
 right e i q (inr c) = not-false _ (sym (ap (λ (k : ℕ). pick (eqb k 1) (not (positionedRight e i)) (pick (eqb k 2) (not (positionedRight e i)) (pick (eqb k 3) (not (eqb (e .positioned i) 0)) false))) c) ∙ q)
 
--- what a right position is
-record Right (e : Elements) (i : ℕ) : Type 0 where
-  role : roleOf (e .pin i) ≡ e .class i
-  once : e .given (e .pin i) ≡ 1
-
-right-is : (e : Elements) (i : ℕ) → positionedRight e i ≡ true → Right e i
-unfolding positionedRight
-right-is e i q = go (eqb (e .positioned i) 1) (e .miscounted i) (eqb (roleOf (e .pin i)) (e .class i)) refl q
-  where
-    go : (a b c : Bool) → eqb (roleOf (e .pin i)) (e .class i) ≡ c → pick (not a) false (pick b false (pick (not c) false (eqb (e .given (e .pin i)) 1))) ≡ true → Right e i
-    go true false true z t = record { role = eqb-true _ _ z; once = eqb-true _ _ t }
-    go true false false z t = absurd (clash (sym t))
-    go true true c z t = absurd (clash (sym t))
-    go false b c z t = absurd (clash (sym t))
-
 -- ---- the OUT at a pin
 
 module _ (e : Elements) (ok : Passed e) where
@@ -89,10 +75,10 @@ module _ (e : Elements) (ok : Passed e) where
   fine-all = fine-is e (ok .five)
 
   pub right-in : (i : ℕ) → i < 64 → e .class i ≡ 1 → isIn (e .pin i) ≡ true
-  right-in i h c = role-in (e .pin i) (right-is e i (right e i (fine-all .positioned i h) (inl c)) .role ∙ c)
+  right-in i h c = role-in (e .pin i) (eqb-true _ _ (right-role e i (right e i (fine-all .positioned i h) (inl c))) ∙ c)
 
   pub right-out : (i : ℕ) → i < 64 → e .class i ≡ 2 → isCell (e .pin i) ≡ true
-  right-out i h c = role-out (e .pin i) (right-is e i (right e i (fine-all .positioned i h) (inr c)) .role ∙ c)
+  right-out i h c = role-out (e .pin i) (eqb-true _ _ (right-role e i (right e i (fine-all .positioned i h) (inr c))) ∙ c)
 
   -- its REG stands where it may
   pub right-placed : (i : ℕ) → i < 64 → e .class i ≡ 2 → placedN (e .nodes i) ≡ true
@@ -120,19 +106,5 @@ module _ (e : Elements) (ok : Passed e) where
   out-cell p t = let o = out-is p t in subst (λ (x : ℕ). isCell x ≡ true) (o .pin) (right-out (outAt e p) (o .small) (o .class))
 
   -- an OUT is the one at its pin
-  there : (i : ℕ) → i < 64 → e .class i ≡ 2 → ltb (outAt e (e .pin i)) 64 ≡ true
-  unfolding outAt
-  there i h c = go (ltb (firstBelow (λ j. eqb (e .class j) 2 && eqb (e .pin j) (e .pin i)) 64) 64) refl
-    where
-      passes : (eqb (e .class i) 2 && eqb (e .pin i) (e .pin i)) ≡ true
-      passes = ap₂ (λ (a b : Bool). a && b) (eq-eqb (e .class i) 2 c) (eq-eqb (e .pin i) (e .pin i) refl)
-
-      go : (b : Bool) → ltb (firstBelow (λ j. eqb (e .class j) 2 && eqb (e .pin j) (e .pin i)) 64) 64 ≡ b → b ≡ true
-      go true q = refl
-      go false q = absurd (clash (sym passes ∙ none-first (λ j. eqb (e .class j) 2 && eqb (e .pin j) (e .pin i)) 64 64 (omega arith) q i h))
-
   pub out-own : (i : ℕ) → i < 64 → e .class i ≡ 2 → outAt e (e .pin i) ≡ i
-  out-own i h c =
-      let o = out-is (e .pin i) (there i h c) in
-      let w = right-is e (outAt e (e .pin i)) (right e (outAt e (e .pin i)) (fine-all .positioned (outAt e (e .pin i)) (o .small)) (inr (o .class))) in
-      ok .apart (outAt e (e .pin i)) i (o .small) h (w .once) (o .pin)
+  out-own i h c = out-at e fine-all i h c

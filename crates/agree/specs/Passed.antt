@@ -7,9 +7,8 @@ use Rattle.circuit.specs.StageFive.Verdict.{fine}
 use Rattle.outputs.specs.Outputs.{stageSix}
 
 pub record Passed (e : Elements) : Type 0 where
-  -- as they are read: there are 64 at most, and a pin that was given once is that of one element (laws `few-read`, `apart-read`)
+  -- as they are read there are 64 at most (law `few-read`)
   pub few : (i : ℕ) → 64 ≤ i → e .class i ≡ 0
-  pub apart : (i j : ℕ) → i < 64 → j < 64 → e .given (e .pin i) ≡ 1 → e .pin i ≡ e .pin j → i ≡ j
   -- none of the refusals 7 to 12
   pub five : stageFive e ≡ fine
   pub six : stageSix e ≡ fine
