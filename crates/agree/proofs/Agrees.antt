@@ -33,7 +33,8 @@ unfolding bitsFor listed
 power-up = refl
 
 -- THE THEOREM: for every list of settings of the caller's pins, cycle by cycle, the model refuses nothing, shows just the OUT pins, and shows there what
--- the circuit shows. (A setting's values at pins that are not the caller's do not count: the caller gives 0 there, and no equation names one.)
+-- the circuit shows. (A setting's values at pins that are not the caller's do not count: the caller gives 0 there, and of these pins equations name only
+-- those of registers, whose values are the registers'.)
 pub agrees : (e : Elements) → Passed e → (inputs : List (ℕ → Bool))
     → map seen (modelRuns (mapFor e) (map (pinsFor e) inputs)) ≡ map (seenOf (circuitOf e)) (runs (circuitOf e) inputs)
 unfolding modelRuns
