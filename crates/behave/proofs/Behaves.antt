@@ -37,14 +37,14 @@ held-used combinational e = refl
 held-used register e = refl
 
 -- the cell of a pin
-cell-low : (x : ℕ) → isCell x ≡ true → 23 - x < 10
+pub cell-low : (x : ℕ) → isCell x ≡ true → 23 - x < 10
 cell-low x e =
     let a = ltb→lt 13 x (and-l (ltb 13 x) (ltb x 24) (of-true _ e)) in
     let b = ltb→lt x 24 (and-r (ltb 13 x) (ltb x 24) (of-true _ e)) in
     omega arith
 
 -- under a test, what stands behind it need only agree where it passes
-under : (a b c : Bool) → (a ≡ true → b ≡ c) → (a && b) ≡ (a && c)
+pub under : (a b c : Bool) → (a ≡ true → b ≡ c) → (a && b) ≡ (a && c)
 under true b c h = h refl
 under false b c h = refl
 

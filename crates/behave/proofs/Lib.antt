@@ -4,5 +4,6 @@ pub mod Chosen
 pub mod Sum
 pub mod Within
 pub mod Behaves
+pub mod Cycles
 pub mod Counted
 pub mod Canon

@@ -3,18 +3,19 @@
 -- Assumes nothing.
 use mathlib.Core.Path.{_≡_}
 use mathlib.Core.Bool.{Bool, true, false, not, _&&_, _||_}
-use mathlib.Core.List.{List, []}
+use mathlib.Core.List.{List, [], _∷_}
 use Prim.Native.Nat.{ℕ, _+_, _-_, _<_}
 use lib.Dec.{T, eqb, ltb}
 use lib.ListN.{length, getD}
 use Rattle.basics.specs.Choice.{bit, on, pick, xor}
-use Rattle.basics.specs.Below.{listed}
+use Rattle.basics.specs.Below.{anyBelow, listed}
 use Rattle.cover.specs.Sum.{bitsOf, over}
 use Rattle.fit.specs.Fit.{fitted}
 use Rattle.fit.specs.declared.Fitted.{Fitted}
 use Rattle.device.specs.Device.{columnOf}
 use Rattle.rows.specs.Setting.{settingOf}
 use Rattle.gal.specs.Map.{isCell}
+use Rattle.gal.specs.Refuse.{wrong}
 use Rattle.gal.specs.declared.Answer.{Answer}
 use Rattle.gal.specs.declared.Verdict.the-variants.{Shown}
 
@@ -94,6 +95,18 @@ answerOf c bits s =
       values = listed (λ i. bit (valueOf c bits s (i + 1))) 24;
       next = listed (λ b. bit (nextOf c s b)) 10;
     }
+
+-- pin values that may be given: 0 or 1, and 1 only for inputs and the pins of unused cells
+abbrev pub givable : Circuit → ℕ → Bool
+givable c x = (ltb 1 x && ltb x 12) || (eqb x 13 || (isCell x && (not (inUse (c .kind (23 - x))) && not (holds (c .kind (23 - x))))))
+
+unfoldable pub refusedPins : Circuit → List ℕ → Bool
+refusedPins c pins = anyBelow (λ i. wrong (givable c (i + 1)) (getD pins i 0)) 24
+
+-- cycle after cycle, each with its pin values, the registers of one being those after the clock of the one before
+unfoldable pub cyclesOf : Circuit → List ℕ → List (List ℕ) → List Answer
+cyclesOf c bits [] = []
+cyclesOf c bits (pins ∷ rest) = answerOf c bits (settingFor c bits pins) ∷ cyclesOf c (listed (λ b. bit (nextOf c (settingFor c bits pins) b)) 10) rest
 
 -- ---- two circuits are the same: equal kinds, registers that start alike, and functions that agree at every setting of all variables
 pub record Same (c d : Circuit) : Type 0 where

@@ -4,9 +4,9 @@ use mathlib.Core.Bool.{Bool, true, false, not, _&&_, _||_}
 use Prim.Native.Nat.{ℕ, zero, suc}
 use lib.Dec.{eqb, ltb}
 use Rattle.basics.specs.Choice.{pick}
+use Rattle.basics.specs.Below.{anyBelow}
 use Rattle.trees.specs.Layout.{Elements}
-use Rattle.reach.specs.Uses.{uses}
-use Rattle.reach.specs.Reach.{via}
+use Rattle.reach.specs.Meeting.{meets}
 use Rattle.circuit.specs.Placed.{plainN, placedN}
 use Rattle.circuit.specs.Pins.{roleOf}
 
@@ -23,15 +23,20 @@ misplaced e i = pick (eqb (e .class i) 2) (not (placedN (e .nodes i))) (pick (eq
 
 -- 9: the element meets itself as names are replaced
 abbrev pub looped : Elements → ℕ → Bool
-looped e i = via (uses e) 64 i i
+looped e i = meets e i i
 
--- 10: a VAR has no position; an IN and an OUT have one, of right count, at a pin of their class that is given once
+-- another IN or OUT stands at the pin of element i
+abbrev pub standsBeside : Elements → ℕ → ℕ → Bool
+standsBeside e i j = not (eqb j i) && (eqb (e .pin j) (e .pin i) && (eqb (e .class j) 1 || eqb (e .class j) 2))
+
+-- 10: a VAR has no position; an IN and an OUT have one, of right count, at a pin of their class that is given once, and so to no other
 unfoldable pub positionedRight : Elements → ℕ → Bool
 positionedRight e i =
     pick (not (eqb (e .positioned i) 1)) false
     (pick (e .miscounted i) false
     (pick (not (eqb (roleOf (e .pin i)) (e .class i))) false
-    (eqb (e .given (e .pin i)) 1)))
+    (pick (anyBelow (standsBeside e i) 64) false
+    (eqb (e .given (e .pin i)) 1))))
 
 unfoldable pub mispositioned : Elements → ℕ → Bool
 mispositioned e i =
@@ -42,7 +47,7 @@ mispositioned e i =
 -- the first number below n that passes, n where none does
 unfoldable pub firstBelow : (ℕ → Bool) → ℕ → ℕ
 firstBelow f zero = 0
-firstBelow f (suc n) = pick (ltb (firstBelow f n) n) (firstBelow f n) (pick (f n) n (suc n))
+firstBelow f (suc n) = let r : ℕ = firstBelow f n in pick (ltb r n) r (pick (f n) n (suc n))
 
 -- a refusal with its number and place, or none
 pub data Verdict : Type 0 where
@@ -51,7 +56,7 @@ pub data Verdict : Type 0 where
 
 -- one pass: the first element at fault is refused at its name's declaration; without one, what the passes behind it say
 abbrev pub pass : ℕ → Elements → (ℕ → Bool) → Verdict → Verdict
-pass number e fault behind = pick (ltb (firstBelow fault 64) 64) (refused number (e .place (firstBelow fault 64))) behind
+pass number e fault behind = let r : ℕ = firstBelow fault 64 in pick (ltb r 64) (refused number (e .place r)) behind
 
 unfoldable pub stageFive : Elements → Verdict
 stageFive e = pass 7 e (misassigned e) (pass 8 e (misplaced e) (pass 9 e (looped e) (pass 10 e (mispositioned e) fine)))

@@ -5,12 +5,13 @@ ghost use Prim.Native.Nat.{ℕ, _+_, _-_, _<_, _≤_};
 ghost use lib.Dec.{eqb};
 ghost use lib.ListN.{length, getD};
 ghost use Rattle.basics.specs.Choice.{pick, bit, on};
+ghost use Rattle.basics.specs.Below.{anyBelow};
 ghost use Rattle.trees.specs.Layout.{Elements, elementsOf, nodesAt};
 ghost use Rattle.reach.specs.Uses.{isReg};
 ghost use Rattle.reach.specs.Table.{cell};
 ghost use Rattle.circuit.specs.Placed.{plainN, placedN};
 ghost use Rattle.circuit.specs.Pins.{roleOf};
-ghost use Rattle.circuit.specs.StageFive.{misassigned, misplaced, looped, positionedRight, mispositioned, firstBelow, stageFive};
+ghost use Rattle.circuit.specs.StageFive.{misassigned, misplaced, looped, standsBeside, positionedRight, mispositioned, firstBelow, stageFive};
 ghost use Rattle.circuit.specs.Judged.{seen};
 
 // What stage 5 says of a module.
@@ -206,6 +207,42 @@ fn role_of(p: usize) -> usize
     0
 }
 
+// Element j is another IN or OUT at the pin of element i.
+fn is_beside(parts: &[u32], i: usize, j: usize) -> bool
+    requires { ⌜ i < 64 ⌝ }
+    requires { ⌜ j < 64 ⌝ }
+    ensures { λ r. ⌜ r ≡ standsBeside (elementsOf (now (parts .entry))) i j ⌝ }
+{
+    if j == i {
+        return false;
+    }
+    if trees::at(parts, trees::PIN_AT + j) == trees::at(parts, trees::PIN_AT + i) {
+        let c = reach::class_of(parts, j);
+        if c == 1 {
+            return true;
+        }
+        if c == 2 {
+            return true;
+        }
+        return false;
+    }
+    false
+}
+
+fn is_crowded(parts: &[u32], i: usize) -> bool
+    requires { ⌜ i < 64 ⌝ }
+    ensures { λ r. ⌜ r ≡ anyBelow (standsBeside (elementsOf (now (parts .entry))) i) 64 ⌝ }
+{
+    let mut j: usize = 0;
+    while j < 64 {
+        if is_beside(parts, i, j) {
+            return true;
+        }
+        j += 1;
+    }
+    false
+}
+
 // One position, of right count, at a pin of the class that is given once.
 fn is_positioned(parts: &[u32], i: usize) -> bool
     requires { ⌜ i < 64 ⌝ }
@@ -219,6 +256,9 @@ fn is_positioned(parts: &[u32], i: usize) -> bool
     }
     let p = trees::at(parts, trees::PIN_AT + i);
     if role_of(p) != reach::class_of(parts, i) {
+        return false;
+    }
+    if is_crowded(parts, i) {
         return false;
     }
     if trees::at(parts, trees::GIVEN_AT + p) == 1 {

@@ -4,3 +4,6 @@ pub mod Ranking
 pub mod Settling
 pub mod Ordering
 pub mod Whole
+pub mod Marked
+pub mod Standing
+pub mod Tops

@@ -15,6 +15,7 @@ use Rattle.trees.specs.Machine.{envOf}
 use Rattle.reach.specs.Uses.{names, replaced, uses}
 use Rattle.reach.specs.Reach.{via}
 use Rattle.reach.specs.Table.{Matrix}
+use Rattle.reach.proofs.Meeting.{meets-is}
 use Rattle.circuit.specs.StageFive.{stageFive}
 use Rattle.circuit.specs.StageFive.Verdict.{fine}
 use Rattle.meaning.specs.Meaning.{Solves, meaning}
@@ -26,7 +27,7 @@ use Rattle.meaning.proofs.Settling.{Ranks, Starts, settled}
 
 module _ (parts : List ℕ) (ok : stageFive (elementsOf parts) ≡ fine) where
   falling : Ranked (elementsOf parts) (rankOf (elementsOf parts))
-  falling = ranked (elementsOf parts) (replaced-small parts) (fine-is (elementsOf parts) ok .free)
+  falling = ranked (elementsOf parts) (replaced-small parts) (λ i h. sym (meets-is (elementsOf parts) i i) ∙ fine-is (elementsOf parts) ok .free i h)
 
   -- the meaning solves the equations
   pub solution : (s : ℕ → Bool) → Solves (elementsOf parts) s (meaning (elementsOf parts) s)

@@ -1,2 +1,4 @@
 pub mod Naming
 pub mod Choosing
+pub mod Keeping
+pub mod Resting

@@ -14,6 +14,8 @@ use Rattle.trees.specs.Layout.{Elements}
 use Rattle.trees.proofs.Stack.{on-bit}
 use Rattle.reach.specs.Uses.{names, writes, uses}
 use Rattle.reach.specs.Reach.{via}
+use Rattle.reach.specs.Meeting.{meets}
+use Rattle.reach.proofs.Meeting.{meets-is}
 use Rattle.reach.specs.Table.{cell, Matrix, marked}
 use Rattle.reach.proofs.Warshall.{matrix-cell, matrix-none}
 use Rattle.reach.proofs.Marking.{marks}
@@ -38,8 +40,8 @@ module _ (e : Elements) (d m z : List ℕ) (o : ℕ) (ho : o < 64) (ez : z ≡ r
   unfolding namedIn mentions
   named-mentions j h =
       ap₂ (λ (a b : Bool). a || b) (written j h)
-      (any-same (λ k. cell d o k && cell m k j) (λ k. writes e o k && via (uses e) 64 k j) 64
-      (λ k l. ap₂ (λ (a b : Bool). a && b) (written k l) (matrix-cell m (via (uses e) 64) mx k j l h)))
+      (any-same (λ k. cell d o k && cell m k j) (λ k. writes e o k && meets e k j) 64
+      (λ k l. ap₂ (λ (a b : Bool). a && b) (written k l) (matrix-cell m (via (uses e) 64) mx k j l h ∙ sym (meets-is e k j))))
 
   pub row-is : listed (λ j. bit (namedIn d m o j)) 64 ≡ listed (λ j. bit (mentions e o j)) 64
   row-is = listed-same (λ j. bit (namedIn d m o j)) (λ j. bit (mentions e o j)) 64 (λ j h. ap bit (named-mentions j h))

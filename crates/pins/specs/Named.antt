@@ -5,12 +5,12 @@ use Prim.Native.Nat.{ℕ}
 use lib.Dec.{eqb}
 use Rattle.basics.specs.Below.{anyBelow}
 use Rattle.trees.specs.Layout.{Elements}
-use Rattle.reach.specs.Uses.{keeps, remains, writes, uses}
-use Rattle.reach.specs.Reach.{via}
+use Rattle.reach.specs.Uses.{keeps, remains, writes}
+use Rattle.reach.specs.Meeting.{meets}
 
 -- element j is written in the equation of o, or is met from one that is
 unfoldable pub mentions : Elements → ℕ → ℕ → Bool
-mentions e o j = writes e o j || anyBelow (λ k. writes e o k && via (uses e) 64 k j) 64
+mentions e o j = writes e o j || anyBelow (λ k. writes e o k && meets e k j) 64
 
 -- an element that remains is at pin p, and is mentioned
 abbrev pub mentionsAt : Elements → ℕ → ℕ → ℕ → Bool

@@ -1,5 +1,5 @@
--- The variables of truth tables, in their two orders (document 01, "The device": the columns; "From equation to rows": the product question; DESIGN,
--- "One engine, two users"). Assumes nothing.
+-- The variables of truth tables, in their two orders (document 01, "The device": the columns; "From equation to rows": the order of rows, and the
+-- product question). Assumes nothing.
 use mathlib.Core.Bool.{Bool, true, false}
 use mathlib.Core.List.{List, [], _∷_, _++_}
 use Prim.Native.Nat.{ℕ, zero, suc, _+_, _-_, _^_}

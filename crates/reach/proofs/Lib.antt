@@ -1,2 +1,3 @@
 pub mod Warshall
 pub mod Marking
+pub mod Meeting

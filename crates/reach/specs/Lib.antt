@@ -1,3 +1,4 @@
 pub mod Uses
 pub mod Reach
+pub mod Meeting
 pub mod Table

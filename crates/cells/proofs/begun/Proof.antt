@@ -1,3 +1,5 @@
+-- `cells::begun` meets its contract.
+-- Assumes nothing.
 use borrow.Author.Tests.{le-ltb, lt-ltb, le-leb, lt-leb, eq-eqb, ne-eqb}
 use Rattle.cells.proofs.begun.Statement.{statement}
 use Rattle.cells.proofs.begun.Tie as tie

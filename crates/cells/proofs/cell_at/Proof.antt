@@ -1,3 +1,5 @@
+-- `cells::cell_at` meets its contract.
+-- Assumes nothing.
 use Rattle.basics.specs.Choice.{bit}
 use lib.Dec.{leb}
 use Prim.Native.Nat.{_-_, _≤_}

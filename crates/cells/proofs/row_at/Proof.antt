@@ -1,3 +1,5 @@
+-- `cells::row_at` meets its contract.
+-- Assumes nothing.
 use Rattle.cells.proofs.Writing.{few-cells, row-begins, row-near, row-first, row-preset, row-unused, row-open, row-behind, row-product}
 use Rattle.cells.specs.Map.{cellAt}
 use Rattle.device.specs.Device.{enableOf}

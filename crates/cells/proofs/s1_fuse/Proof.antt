@@ -1,3 +1,5 @@
+-- `cells::s1_fuse` meets its contract.
+-- Assumes nothing.
 use borrow.Author.Tests.{eq-eqb, ne-eqb}
 use borrow.Author.Needs.{needs}
 use Rattle.cells.proofs.s1_fuse.Statement.{statement}

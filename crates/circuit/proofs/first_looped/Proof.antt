@@ -1,3 +1,4 @@
+use Rattle.reach.proofs.Meeting.{meets-is}
 use Rattle.circuit.proofs.First.{first-same}
 use Rattle.reach.proofs.Warshall.{matrix-cell}
 use mathlib.Core.Path.{refl, sym, _∙_}
@@ -30,7 +31,7 @@ first-own-requires c κs = c .before .before .reach .ensures .size
 -- src/lib.rt:175:1
 returns : tie.Need-returns
 unfolding firstBelow
-returns c = c .first-own .ensures ∙ first-same _ _ 64 (λ k h. matrix-cell _ _ (c .before .before .before .reach .ensures) k k h h)
+returns c = c .first-own .ensures ∙ first-same _ _ 64 (λ k h. matrix-cell _ _ (c .before .before .before .reach .ensures) k k h h ∙ sym (meets-is _ k k))
 
 pub first-looped-spec : {M : Type 1} → statement M
 first-looped-spec =
