@@ -29,7 +29,8 @@ pub enum Answer {
 
 const POWERS: [usize; 11] = [1, 2, 4, 8, 16, 32, 64, 128, 256, 512, 1024];
 
-fn power(n: usize) -> usize
+// How many settings n variables have.
+pub fn power(n: usize) -> usize
     requires { ⌜ n < 11 ⌝ }
     ensures { λ r. ⌜ r ≡ 2 ^ n ⌝ }
 {
@@ -70,7 +71,7 @@ fn is_out_at(parts: &[u32], p: usize, i: usize) -> bool
 }
 
 // The OUT at pin p, 64 where there is none.
-fn out_at(parts: &[u32], p: usize) -> usize
+pub fn out_at(parts: &[u32], p: usize) -> usize
     ensures { λ r. ⌜ r ≡ outAt (elementsOf (now (parts .entry))) p ⌝ }
 {
     let mut i: usize = 0;

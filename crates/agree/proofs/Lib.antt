@@ -1,0 +1,12 @@
+pub mod Basic
+pub mod Reading
+pub mod Positions
+pub mod Bits
+pub mod Speaking
+pub mod Depends
+pub mod Fitting
+pub mod Columns
+pub mod Functions
+pub mod Cycles
+pub mod Agrees
+pub mod Same
