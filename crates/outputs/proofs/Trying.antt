@@ -20,6 +20,7 @@ use Rattle.circuit.specs.Pins.{roleOf}
 use Rattle.circuit.specs.StageFive.{stageFive, positionedRight, mispositioned}
 use Rattle.circuit.specs.StageFive.Verdict.{fine}
 use Rattle.meaning.proofs.Fine.{Fine, fine-is}
+use Rattle.meaning.proofs.Standing.{right-role}
 use Rattle.pins.specs.Variables.{countOf, maskOf}
 use Rattle.tables.specs.Tables.{entryOf, Tabled, tabled, tableIn}
 use Rattle.tables.specs.Tables.Tabled.{table, many}
@@ -50,16 +51,6 @@ role-two p q =
     (λ (h : p < 14). absurd (clash (sym q ∙ role-small p h)))
     (λ (h : 14 ≤ p). ⊎-elim (λ (g : p < 24). (h, g)) (λ (g : 24 ≤ p). absurd (clash (sym q ∙ role-large p g))) (below-or-not p 24))
     (below-or-not p 14)
-
-right-role : (e : Elements) (i : ℕ) → positionedRight e i ≡ true → eqb (roleOf (e .pin i)) (e .class i) ≡ true
-unfolding positionedRight
-right-role e i q = go (not (eqb (e .positioned i) 1)) (e .miscounted i) (eqb (roleOf (e .pin i)) (e .class i)) q
-  where
-    go : (a b c : Bool) → pick a false (pick b false (pick (not c) false (eqb (e .given (e .pin i)) 1))) ≡ true → c ≡ true
-    go true b c q = absurd (clash (sym q))
-    go false true c q = absurd (clash (sym q))
-    go false false true q = refl
-    go false false false q = absurd (clash (sym q))
 
 right : (e : Elements) (i : ℕ) → e .class i ≡ 2 → mispositioned e i ≡ false → positionedRight e i ≡ true
 unfolding mispositioned
