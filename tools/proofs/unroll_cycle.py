@@ -1,4 +1,5 @@
 # The proof of the cycle of the six functions that carry out statements and FOR: the measure is the levels left, and a rank.
+# The invariant and the measure of `turns` (its seed breaks the line, so they are not filled in from here) are set in the file as `loops` has them.
 folder = '+round+run_for+run_loop+statement_turn+statements+turns'
 rank = {'run-for': 0, 'statement-turn': 1, 'statements': 2, 'round': 3, 'turns': 4, 'run-loop': 5}
 measures = {m: f"{place(m, 'depth')} * 6 + {rank[m]}" for m in members}
