@@ -1,0 +1,33 @@
+-- Demand 1, what a refusal leaves; and two compilers that break the promise. Assumes nothing.
+use mathlib.Core.Path.{_≡_, refl, sym, ap, _∙_, subst}
+use mathlib.Core.List.{List, _++_}
+use Prim.Native.Nat.{ℕ}
+use native.Mathlib.Omega.{arith}
+use lib.ListN.{length, drop, getD, replicate}
+use Rattle.trees.specs.Layout.{elementsOf}
+use Rattle.fusetext.specs.File.{opening, fieldsOf, body, fileOf}
+use Rattle.fusetext.specs.Outcome.{Outcome, gives, refuses, left}
+use Rattle.texts.specs.Calls.{compiledOf}
+use Rattle.kinvlopt.specs.declared.Compiled.{Compiled}
+use Rattle.kinvlopt.specs.declared.Compiled.the-variants.{File, Refused}
+use Rattle.kinvlopt.specs.Compiling.{compiledAs, Does, Compiles}
+
+abbrev isRefusal : Compiled → Type 0
+isRefusal (File n) = ⊥
+isRefusal (Refused n p) = Unit {0}
+
+told-apart : (f : List ℕ) (n p : ℕ) → Refused n p ≡ compiledAs (gives f) → ⊥
+told-apart f n p e = subst isRefusal e tt
+
+-- a refusal leaves the output as it was and the room zeroed
+pub refusal-leaves : (text out room : List ℕ) (n p : ℕ) (x y : List ℕ) → Compiles text out room (Refused n p) x y → (x ≡ out) × (y ≡ replicate (length room) 0)
+refusal-leaves text out room n p x y c = (c .leaves ∙ go (compiledOf text (length out) (length room)) (c .answers), c .clears)
+  where
+    go : (o : Outcome) → Refused n p ≡ compiledAs o → left o out ≡ out
+    go (gives f) e = absurd (told-apart f n p e)
+    go (refuses k q) e = refl
+
+-- a compiler that refuses all texts: no text that has a file is refused
+pub refusing-all : (text out room file : List ℕ) (n p : ℕ) (x y : List ℕ) → compiledOf text (length out) (length room) ≡ gives file
+    → Compiles text out room (Refused n p) x y → ⊥
+refusing-all text out room file n p x y e c = told-apart file n p (c .answers ∙ ap compiledAs e)
