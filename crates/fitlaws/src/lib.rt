@@ -1,0 +1,1 @@
+// What the fit program prints of a module is counted in the map that it emits.
