@@ -29,13 +29,7 @@ fn judge_names(parts: &[u32]) -> Told
 }
 
 // Stage 4, the statements from a place on, among the names lent.
-fn unroll_from(
-    text: &[u8],
-    names: &[u16],
-    parts: &mut [u32],
-    count: usize,
-    from: Cursor,
-) -> Told
+fn unroll_from(text: &[u8], names: &[u16], parts: &mut [u32], count: usize, from: Cursor) -> Told
     ensures { λ r. ⌜ seenFront r (now (parts .exit)) ≡ fourth (now (text .entry)) (from .at) (now (names .entry)) (now (parts .entry), count) ⌝ }
 {
     match unroll::statements(text, names, parts, count, from, 32) {
@@ -53,13 +47,7 @@ fn unroll_from(
 }
 
 // The same, among the names of a table.
-fn unroll_table(
-    text: &[u8],
-    table: Table,
-    parts: &mut [u32],
-    count: usize,
-    from: Cursor,
-) -> Told
+fn unroll_table(text: &[u8], table: Table, parts: &mut [u32], count: usize, from: Cursor) -> Told
     requires { ⌜ table .top ≤ 640 ⌝ }
     ensures { λ r. ⌜ seenFront r (now (parts .exit)) ≡ fourth (now (text .entry)) (from .at) (held table) (now (parts .entry), count) ⌝ }
 {
