@@ -7,7 +7,7 @@ use Rattle.lola_compile.proofs.answer.Tie as tie
 use Rattle.lola_compile.proofs.answer.Reads as reads
 use Rattle.lola_compile.proofs.answer.Lts as lts
 use Rattle.io.proofs.write_all.Reads as write-all-reads
-use Rattle.kinvlopt.proofs.compile.Reads as compile-reads
+use Rattle.compilecall.proofs.compile.Reads as compile-reads
 use Rattle.lola_compile.proofs.refuse.Reads as refuse-reads
 
 -- src/main.rt:16:44

@@ -1,10 +1,10 @@
 use mathlib.Core.Path.{_≡_, refl, sym, ap, _∙_}
-use Rattle.kinvlopt.proofs.Laws.{passedOn, writes-answer, writes-file}
+use Rattle.compilecall.proofs.Laws.{passedOn, writes-answer, writes-file}
 use borrow.Author.Needs.{needs}
-use Rattle.kinvlopt.proofs.put_file.Statement.{statement}
-use Rattle.kinvlopt.proofs.put_file.Tie as tie
-use Rattle.kinvlopt.proofs.put_file.Reads as reads
-use Rattle.kinvlopt.proofs.put_file.Lts as lts
+use Rattle.compilecall.proofs.put_file.Statement.{statement}
+use Rattle.compilecall.proofs.put_file.Tie as tie
+use Rattle.compilecall.proofs.put_file.Reads as reads
+use Rattle.compilecall.proofs.put_file.Lts as lts
 use Rattle.fusewrite.proofs.write.Reads as write-reads
 
 -- src/lib.rt:45:11

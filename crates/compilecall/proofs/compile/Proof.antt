@@ -1,11 +1,11 @@
-use Rattle.kinvlopt.proofs.Laws.{short-output, short-cleared, zeros-again, lent-cleared}
+use Rattle.compilecall.proofs.Laws.{short-output, short-cleared, zeros-again, lent-cleared}
 use borrow.Author.Needs.{needs}
-use Rattle.kinvlopt.proofs.compile.Statement.{statement}
-use Rattle.kinvlopt.proofs.compile.Tie as tie
-use Rattle.kinvlopt.proofs.compile.Reads as reads
-use Rattle.kinvlopt.proofs.compile.Lts as lts
+use Rattle.compilecall.proofs.compile.Statement.{statement}
+use Rattle.compilecall.proofs.compile.Tie as tie
+use Rattle.compilecall.proofs.compile.Reads as reads
+use Rattle.compilecall.proofs.compile.Lts as lts
 use Rattle.cover.proofs.clear.Reads as clear-reads
-use Rattle.kinvlopt.proofs.compile_text.Reads as compile-text-reads
+use Rattle.compilecall.proofs.compile_text.Reads as compile-text-reads
 
 -- src/lib.rt:71:5
 clear-requires : tie.Need-clear-requires

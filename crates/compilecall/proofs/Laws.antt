@@ -21,9 +21,9 @@ use Rattle.fusewrite.specs.Writing.{writeOf, writtenOf, Writes}
 use Rattle.texts.specs.Stages.{Front, stays, refused, unless, frontOf, fitting, wholeOf}
 use Rattle.texts.specs.Calls.{lent, filed, compiledOf}
 use Rattle.texts.proofs.Emits.{emits-map}
-use Rattle.kinvlopt.specs.declared.Compiled.{Compiled}
-use Rattle.kinvlopt.specs.declared.Compiled.the-variants.{File, Refused}
-use Rattle.kinvlopt.specs.Compiling.{compiledAs, Does, Compiles}
+use Rattle.compilecall.specs.declared.Compiled.{Compiled}
+use Rattle.compilecall.specs.declared.Compiled.the-variants.{File, Refused}
+use Rattle.compilecall.specs.Compiling.{compiledAs, Does, Compiles}
 
 -- ---- the writer
 

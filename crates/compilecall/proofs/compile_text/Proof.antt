@@ -1,12 +1,12 @@
 use mathlib.Core.Path.{_≡_, refl, sym, ap, _∙_}
-use Rattle.kinvlopt.proofs.Laws.{text-stays, text-refused}
+use Rattle.compilecall.proofs.Laws.{text-stays, text-refused}
 use Rattle.texts.proofs.Sound.{passed-five}
 use borrow.Author.Needs.{needs}
-use Rattle.kinvlopt.proofs.compile_text.Statement.{statement}
-use Rattle.kinvlopt.proofs.compile_text.Tie as tie
-use Rattle.kinvlopt.proofs.compile_text.Reads as reads
-use Rattle.kinvlopt.proofs.compile_text.Lts as lts
-use Rattle.kinvlopt.proofs.compile_parts.Reads as compile-parts-reads
+use Rattle.compilecall.proofs.compile_text.Statement.{statement}
+use Rattle.compilecall.proofs.compile_text.Tie as tie
+use Rattle.compilecall.proofs.compile_text.Reads as reads
+use Rattle.compilecall.proofs.compile_text.Lts as lts
+use Rattle.compilecall.proofs.compile_parts.Reads as compile-parts-reads
 use Rattle.lola.proofs.front.Reads as front-reads
 
 -- src/lib.rt:74:29

@@ -1,13 +1,13 @@
 use mathlib.Core.Path.{_≡_, refl, sym, ap, _∙_}
-use Rattle.kinvlopt.proofs.Laws.{fit-is-map, file-fits, file-misfits}
+use Rattle.compilecall.proofs.Laws.{fit-is-map, file-fits, file-misfits}
 use Rattle.outmap.specs.Sixth.{seen}
 use native.Mathlib.Omega.{arith}
 use borrow.Author.Needs.{needs}
-use Rattle.kinvlopt.proofs.compile_parts.Statement.{statement}
-use Rattle.kinvlopt.proofs.compile_parts.Tie as tie
-use Rattle.kinvlopt.proofs.compile_parts.Reads as reads
-use Rattle.kinvlopt.proofs.compile_parts.Lts as lts
-use Rattle.kinvlopt.proofs.put_file.Reads as put-file-reads
+use Rattle.compilecall.proofs.compile_parts.Statement.{statement}
+use Rattle.compilecall.proofs.compile_parts.Tie as tie
+use Rattle.compilecall.proofs.compile_parts.Reads as reads
+use Rattle.compilecall.proofs.compile_parts.Lts as lts
+use Rattle.compilecall.proofs.put_file.Reads as put-file-reads
 use Rattle.outmap.proofs.map_outputs.Reads as map-outputs-reads
 
 -- src/lib.rt:60:44

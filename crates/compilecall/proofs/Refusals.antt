@@ -8,9 +8,9 @@ use Rattle.trees.specs.Layout.{elementsOf}
 use Rattle.fusetext.specs.File.{opening, fieldsOf, body, fileOf}
 use Rattle.fusetext.specs.Outcome.{Outcome, gives, refuses, left}
 use Rattle.texts.specs.Calls.{compiledOf}
-use Rattle.kinvlopt.specs.declared.Compiled.{Compiled}
-use Rattle.kinvlopt.specs.declared.Compiled.the-variants.{File, Refused}
-use Rattle.kinvlopt.specs.Compiling.{compiledAs, Does, Compiles}
+use Rattle.compilecall.specs.declared.Compiled.{Compiled}
+use Rattle.compilecall.specs.declared.Compiled.the-variants.{File, Refused}
+use Rattle.compilecall.specs.Compiling.{compiledAs, Does, Compiles}
 
 abbrev isRefusal : Compiled → Type 0
 isRefusal (File n) = ⊥

@@ -5,8 +5,8 @@ use Prim.Native.Nat.{ℕ}
 use lib.ListN.{length, replicate}
 use Rattle.fusetext.specs.Outcome.{Outcome, gives, refuses, left}
 use Rattle.texts.specs.Calls.{compiledOf}
-use Rattle.kinvlopt.specs.declared.Compiled.{Compiled}
-use Rattle.kinvlopt.specs.declared.Compiled.the-variants.{File, Refused}
+use Rattle.compilecall.specs.declared.Compiled.{Compiled}
+use Rattle.compilecall.specs.declared.Compiled.the-variants.{File, Refused}
 
 -- the answer for each outcome: the file's length, or the refusal's number and place
 abbrev pub compiledAs : Outcome → Compiled

@@ -2,8 +2,8 @@
 use mathlib.Core.Path.{_≡_, sym, _∙_}
 use mathlib.Core.List.{List}
 use Prim.Native.Nat.{ℕ}
-use Rattle.kinvlopt.specs.declared.Compiled.{Compiled}
-use Rattle.kinvlopt.specs.Compiling.{Compiles}
+use Rattle.compilecall.specs.declared.Compiled.{Compiled}
+use Rattle.compilecall.specs.Compiling.{Compiles}
 
 -- two outcomes of `compile` on the same text, output and room, each an answer and the final contents of both, are equal
 pub compile-once : (text out room : List ℕ) (a b : Compiled) (x y v w : List ℕ) → Compiles text out room a x v → Compiles text out room b y w → (a ≡ b) × (x ≡ y) × (v ≡ w)
