@@ -6,63 +6,36 @@ use Prim.Native.Nat.{ℕ, zero, suc, _+_, _≤_, _<_}
 use native.Mathlib.Omega.{arith}
 use lib.Dec.{T, eqb, ltb, leb}
 use borrow.Author.Tests.{le-leb, ltb-true, eqb-true}
-use lib.ListN.{length, replicate}
+use lib.ListN.{replicate}
 use Rattle.basics.specs.Choice.{pick, bit}
-use Rattle.basics.specs.Text.{text}
 use Rattle.basics.proofs.Folds.{all-at, listed-same}
 use Rattle.basics.proofs.Truth.{clash, and-false}
 use Rattle.device.specs.Device.{enableOf, productsOf}
 use Rattle.rows.specs.Row.{pairsFrom, productRow}
-use Rattle.trees.specs.Layout.{Elements, elementsOf as allOf}
-use Rattle.texts.specs.Stages.{Front, stays, refused}
+use Rattle.texts.specs.Stages.{Front}
 use Rattle.basics.specs.Below.{anyBelow, allBelow, tally, listed}
-use Rattle.words.specs.Bytes.{isBlank, isLetter, isDigit, isSingle, isPair, turnOf}
-use Rattle.words.specs.Words.{gap, endOf, prefixed, ofTwo, ofThree, ofFour, ofFive, ofSix, keywordOf, named, nameAt, valueOf, numberAt, pairKind, pairAt, logicAt, formAt, wordAt, nextWord}
-use Rattle.integers.specs.Integers.{fitted, divided, leftOver, powered, combined, roundsOf}
-use Rattle.names.specs.Names.{spelling, sameBytes, alike, same, numberOf, find, entry, entries, lookedUp, extended}
-use Rattle.grammar.specs.Grammar.{indexSort, partSort, closed, turn, chain, level, dotted, pointed, part, bracketed, named as grammar-named, muxThird, muxSecond, muxed, kept, regged, inverted, factor, term, expression, nested}
-use Rattle.grammar.specs.Modules.{repeat, upTo, given, numberTurn, numbers, positioned, aimed, simple, statement, statementTurn, statements, looped, ranged, forFrom, forOf, constantTurn, anotherName, nameTurn, nameList, arrayed, typed, typeOf, listTurn, constants, lists, outAndVar, declarations, begun, headed, sameName, ended, headless, wholeText}
-use Rattle.judging.specs.Judging.{meaningOf, markOf, literalOf, logicOf, plainOf, openedOf, elementOf, operatorOf}
-use Rattle.judging.specs.Reading.{emitted}
-use Rattle.parts.specs.Parts.{raised, noted, allows, oneMore, declaredFrom, assignedIn, positionedIn, miscountedFrom}
-use Rattle.simple.specs.Statements.{targetOf, assignmentOf, numberTurn as simple-numberTurn, numbersOf, listOf, oneOf, positionOf, actOf, simpleOf}
-use Rattle.lists.specs.Lists.{backTurn, backOf, freshName, freshTurn, freshOf, closedType, lengthOf, typeOf as lists-typeOf}
-use Rattle.declare.specs.Declarations.{elementName, constantEnd, constantFrom, constantOf, elementTurn, elementsOf, listEnd, signalsOf, itemOf, itemTurn, itemsOf, sectionOf, sectionsOf, declarationsOf}
-use Rattle.unroll.specs.Loops.{passTurn, passedOf, upperOf, lowerOf, rangeOf, headerOf, roundOf, turnsOf, loopOf, forFrom as unroll-forFrom, statementTurn as unroll-statementTurn, statementsWith, forOf as unroll-forOf}
 use Rattle.trees.specs.Layout.{nodesAt, classOf}
 use Rattle.trees.specs.Machine.{run, valueOf as trees-valueOf}
-use Rattle.trees.specs.Runs.{firstIn, endIn}
-use Rattle.trees.specs.Stack.{tops}
-use Rattle.trees.specs.Tree.{eval, flat}
 use Rattle.reach.specs.Meeting.{topBelow, meets}
 use Rattle.reach.specs.Reach.{via}
-use Rattle.reach.specs.Table.{marked}
 use Rattle.reach.specs.Uses.{fromEnd, inverts, registers, keeps, names, replaced, remains, writes, uses}
-use Rattle.circuit.specs.Pins.{roleOf}
-use Rattle.circuit.specs.Placed.{plain, topped, placed, plainN, placedN}
-use Rattle.circuit.specs.StageFive.{misassigned, misplaced, positionedRight, mispositioned, firstBelow, stageFive}
-use Rattle.meaning.specs.Circuit.{outAt, shows, clocked, runFrom}
+use Rattle.circuit.specs.StageFive.{firstBelow}
+use Rattle.meaning.specs.Circuit.{outAt}
 use Rattle.meaning.specs.Meaning.{value, showsNext}
-use Rattle.meaning.specs.Settle.{settleAll, orderOf}
-use Rattle.pins.specs.Memory.{namedIn}
 use Rattle.pins.specs.Named.{mentions, namesPin}
 use Rattle.pins.specs.Variables.{variablePin, chosen, maskBelow}
-use Rattle.tables.specs.Tables.{flipAt, setBits, tabled, tableIn}
+use Rattle.tables.specs.Tables.{flipAt, setBits}
 use Rattle.sums.specs.Named.{keep, spread, count}
-use Rattle.sums.specs.Order.{columns, before}
-use Rattle.sums.specs.Product.{covers, imp, drops, any, filter, prime, verdict, expand, products, primes, factors, digits, number}
-use Rattle.engine.specs.Steps.{dropsN, gradeN}
+use Rattle.sums.specs.Product.{imp, drops, any, filter, prime, expand, products, primes, number}
 use Rattle.texts.specs.Calls.{lent, compiledOf}
-use Rattle.texts.specs.Meaning.{meaning, isGiven, settingFor}
-use Rattle.texts.specs.Stages.{fifth, fourth, third, second, frontOf, wholeOf}
-
+use Rattle.texts.specs.Stages.{frontOf, wholeOf}
 use Rattle.sums.specs.Product.{Digit}
 use Rattle.engine.specs.Table.{function}
 use Rattle.sums.proofs.Named.{primes-named}
 use Rattle.cover.specs.Mask.{mask}
 use Rattle.cover.specs.Sum.{bitsOf}
 use Rattle.cover.proofs.Joining.{bits-length}
-use Rattle.fit.specs.Fit.{primesOf, fits, taken, refused as noProducts, inverted as turned, fitted as fitting}
+use Rattle.fit.specs.Fit.{primesOf, fits, taken, refused as noProducts, fitted as fitting}
 use Rattle.fit.specs.declared.Fitted.{Fitted}
 use Rattle.circuit.specs.StageFive.{Verdict}
 use Rattle.circuit.specs.StageFive.Verdict.{fine, refused as faulty}
@@ -71,37 +44,11 @@ use Rattle.cells.specs.Map.{cellRow, cellAt, rowAt, fuseAt, mapOf}
 use Rattle.outputs.specs.Outputs.{kindOf, tableOf, fittedOut, tooMany, misfits, stageSix, cellOf, mapFor}
 use Rattle.agree.proofs.Basic.{first-passes}
 use Rattle.fusetext.specs.File.{fileOf}
-use Rattle.fusetext.specs.Outcome.{Outcome, gives, refuses}
+use Rattle.fusetext.specs.Outcome.{gives, refuses}
 use Rattle.fusetrip.proofs.Example.{exampleMap, exampleFile, example-file}
 use Rattle.texts.specs.Calls.{filed}
+use Rattle.demands.proofs.Fronts.{module-T, parts-T, elements-T, front-T}
 use Rattle.texts.specs.Stages.{unless, fitting as sixth}
-
--- the module
-abbrev pub module-T : List ℕ
-module-T = text "MODULE T; IN a: BIT; OUT y: BIT; BEGIN a::2; y::23; y := REG(y - a) END T."
-
--- the memory that its elements are read from: four nodes, then, of a and y, the tables of their classes, places, starts and sizes of equations, assignments,
--- positions and pins, and which pins were given; last three counts
-unfoldable pub parts-T : List ℕ
-parts-T =
-    (10 ∷ 9 ∷ 5 ∷ 7 ∷ []) ++ replicate 2044 0
-    ++ (1 ∷ 2 ∷ []) ++ replicate 62 0
-    ++ (13 ∷ 25 ∷ []) ++ replicate 62 0
-    ++ replicate 64 0
-    ++ (0 ∷ 4 ∷ []) ++ replicate 62 0
-    ++ (0 ∷ 1 ∷ []) ++ replicate 62 0
-    ++ (1 ∷ 1 ∷ []) ++ replicate 62 0
-    ++ (2 ∷ 23 ∷ []) ++ replicate 62 0
-    ++ replicate 64 0
-    ++ replicate 2 0 ++ (1 ∷ []) ++ replicate 20 0 ++ (1 ∷ []) ++ replicate 1 0
-    ++ (3 ∷ 2 ∷ 0 ∷ [])
-
-pub front-T : frontOf module-T ≡ stays parts-T
-unfolding anyBelow allBelow tally listed isBlank isLetter isDigit isSingle isPair turnOf gap endOf prefixed ofTwo ofThree ofFour ofFive ofSix keywordOf named nameAt valueOf numberAt pairKind pairAt logicAt formAt wordAt nextWord fitted divided leftOver powered combined roundsOf spelling sameBytes alike same numberOf find entry entries lookedUp extended indexSort partSort closed turn chain level dotted pointed part bracketed grammar-named muxThird muxSecond muxed kept regged inverted factor term expression nested repeat upTo given numberTurn numbers positioned aimed simple statement statementTurn statements looped ranged forFrom forOf constantTurn anotherName nameTurn nameList arrayed typed typeOf listTurn constants lists outAndVar declarations begun headed sameName ended headless wholeText meaningOf markOf literalOf logicOf plainOf openedOf elementOf operatorOf emitted raised noted allows oneMore declaredFrom assignedIn positionedIn miscountedFrom targetOf assignmentOf simple-numberTurn numbersOf listOf oneOf positionOf actOf simpleOf backTurn backOf freshName freshTurn freshOf closedType lengthOf lists-typeOf elementName constantEnd constantFrom constantOf elementTurn elementsOf listEnd signalsOf itemOf itemTurn itemsOf sectionOf sectionsOf declarationsOf passTurn passedOf upperOf lowerOf rangeOf headerOf roundOf turnsOf loopOf unroll-forFrom unroll-statementTurn statementsWith unroll-forOf nodesAt classOf run trees-valueOf firstIn endIn tops eval flat topBelow meets via marked fromEnd inverts registers keeps names replaced remains writes uses roleOf plain topped placed plainN placedN misassigned misplaced positionedRight mispositioned firstBelow stageFive outAt shows clocked runFrom value showsNext settleAll orderOf namedIn mentions namesPin variablePin chosen maskBelow flipAt setBits tabled tableIn keep spread count columns before covers imp drops any filter prime verdict expand products primes factors digits number dropsN gradeN lent compiledOf meaning isGiven settingFor fifth fourth third second frontOf wholeOf parts-T
-front-T = refl
-
-abbrev pub elements-T : Elements
-elements-T = allOf parts-T
 
 -- ---- the complete sum of y, in cell 0
 
@@ -128,7 +75,7 @@ fitted-T = ap fit-with (few named-T function-T)
 
 -- it has two products, which a cell has room for
 sum-fits : fits 0 sum-T ≡ true
-unfolding anyBelow allBelow tally listed isBlank isLetter isDigit isSingle isPair turnOf gap endOf prefixed ofTwo ofThree ofFour ofFive ofSix keywordOf named nameAt valueOf numberAt pairKind pairAt logicAt formAt wordAt nextWord fitted divided leftOver powered combined roundsOf spelling sameBytes alike same numberOf find entry entries lookedUp extended indexSort partSort closed turn chain level dotted pointed part bracketed grammar-named muxThird muxSecond muxed kept regged inverted factor term expression nested repeat upTo given numberTurn numbers positioned aimed simple statement statementTurn statements looped ranged forFrom forOf constantTurn anotherName nameTurn nameList arrayed typed typeOf listTurn constants lists outAndVar declarations begun headed sameName ended headless wholeText meaningOf markOf literalOf logicOf plainOf openedOf elementOf operatorOf emitted raised noted allows oneMore declaredFrom assignedIn positionedIn miscountedFrom targetOf assignmentOf simple-numberTurn numbersOf listOf oneOf positionOf actOf simpleOf backTurn backOf freshName freshTurn freshOf closedType lengthOf lists-typeOf elementName constantEnd constantFrom constantOf elementTurn elementsOf listEnd signalsOf itemOf itemTurn itemsOf sectionOf sectionsOf declarationsOf passTurn passedOf upperOf lowerOf rangeOf headerOf roundOf turnsOf loopOf unroll-forFrom unroll-statementTurn statementsWith unroll-forOf nodesAt classOf run trees-valueOf firstIn endIn tops eval flat topBelow meets via marked fromEnd inverts registers keeps names replaced remains writes uses roleOf plain topped placed plainN placedN misassigned misplaced positionedRight mispositioned firstBelow stageFive outAt shows clocked runFrom value showsNext settleAll orderOf namedIn mentions namesPin variablePin chosen maskBelow flipAt setBits tabled tableIn keep spread count columns before covers imp drops any filter prime verdict expand products primes factors digits number dropsN gradeN lent compiledOf meaning isGiven settingFor fifth fourth third second frontOf wholeOf parts-T tableOf bitsOf productsOf
+unfolding anyBelow tally listed nodesAt classOf run trees-valueOf fromEnd inverts registers keeps names replaced remains writes uses via topBelow meets firstBelow outAt value showsNext mentions namesPin variablePin chosen maskBelow flipAt setBits parts-T keep spread count imp drops any filter prime expand products primes number tableOf bitsOf productsOf
 sum-fits = refl
 
 -- ---- stage 6 lets T pass
@@ -142,7 +89,7 @@ unfolding allBelow classOf parts-T
 only-y o h = all-at (λ k. not (eqb (elements-T .class k) 2) || eqb k 1) 64 refl o h
 
 few-pins : tooMany elements-T 1 ≡ false
-unfolding anyBelow allBelow tally listed isBlank isLetter isDigit isSingle isPair turnOf gap endOf prefixed ofTwo ofThree ofFour ofFive ofSix keywordOf named nameAt valueOf numberAt pairKind pairAt logicAt formAt wordAt nextWord fitted divided leftOver powered combined roundsOf spelling sameBytes alike same numberOf find entry entries lookedUp extended indexSort partSort closed turn chain level dotted pointed part bracketed grammar-named muxThird muxSecond muxed kept regged inverted factor term expression nested repeat upTo given numberTurn numbers positioned aimed simple statement statementTurn statements looped ranged forFrom forOf constantTurn anotherName nameTurn nameList arrayed typed typeOf listTurn constants lists outAndVar declarations begun headed sameName ended headless wholeText meaningOf markOf literalOf logicOf plainOf openedOf elementOf operatorOf emitted raised noted allows oneMore declaredFrom assignedIn positionedIn miscountedFrom targetOf assignmentOf simple-numberTurn numbersOf listOf oneOf positionOf actOf simpleOf backTurn backOf freshName freshTurn freshOf closedType lengthOf lists-typeOf elementName constantEnd constantFrom constantOf elementTurn elementsOf listEnd signalsOf itemOf itemTurn itemsOf sectionOf sectionsOf declarationsOf passTurn passedOf upperOf lowerOf rangeOf headerOf roundOf turnsOf loopOf unroll-forFrom unroll-statementTurn statementsWith unroll-forOf nodesAt classOf run trees-valueOf firstIn endIn tops eval flat topBelow meets via marked fromEnd inverts registers keeps names replaced remains writes uses roleOf plain topped placed plainN placedN misassigned misplaced positionedRight mispositioned firstBelow stageFive outAt shows clocked runFrom value showsNext settleAll orderOf namedIn mentions namesPin variablePin chosen maskBelow flipAt setBits tabled tableIn keep spread count columns before covers imp drops any filter prime verdict expand products primes factors digits number dropsN gradeN lent compiledOf meaning isGiven settingFor fifth fourth third second frontOf wholeOf parts-T tooMany
+unfolding anyBelow tally listed nodesAt classOf run trees-valueOf fromEnd inverts registers keeps names replaced remains writes uses via topBelow meets firstBelow outAt value showsNext mentions namesPin variablePin chosen maskBelow flipAt setBits parts-T tooMany
 few-pins = refl
 
 y-fits : misfits elements-T 1 ≡ false
@@ -186,7 +133,7 @@ abbrev held-T : Fitted
 held-T = record { ok = true; s0 = true; n = 2; masks = 1572864 ∷ 6755399442628608 ∷ replicate 14 0 }
 
 sum-held : taken true sum-T ≡ held-T
-unfolding anyBelow allBelow tally listed isBlank isLetter isDigit isSingle isPair turnOf gap endOf prefixed ofTwo ofThree ofFour ofFive ofSix keywordOf named nameAt valueOf numberAt pairKind pairAt logicAt formAt wordAt nextWord fitted divided leftOver powered combined roundsOf spelling sameBytes alike same numberOf find entry entries lookedUp extended indexSort partSort closed turn chain level dotted pointed part bracketed grammar-named muxThird muxSecond muxed kept regged inverted factor term expression nested repeat upTo given numberTurn numbers positioned aimed simple statement statementTurn statements looped ranged forFrom forOf constantTurn anotherName nameTurn nameList arrayed typed typeOf listTurn constants lists outAndVar declarations begun headed sameName ended headless wholeText meaningOf markOf literalOf logicOf plainOf openedOf elementOf operatorOf emitted raised noted allows oneMore declaredFrom assignedIn positionedIn miscountedFrom targetOf assignmentOf simple-numberTurn numbersOf listOf oneOf positionOf actOf simpleOf backTurn backOf freshName freshTurn freshOf closedType lengthOf lists-typeOf elementName constantEnd constantFrom constantOf elementTurn elementsOf listEnd signalsOf itemOf itemTurn itemsOf sectionOf sectionsOf declarationsOf passTurn passedOf upperOf lowerOf rangeOf headerOf roundOf turnsOf loopOf unroll-forFrom unroll-statementTurn statementsWith unroll-forOf nodesAt classOf run trees-valueOf firstIn endIn tops eval flat topBelow meets via marked fromEnd inverts registers keeps names replaced remains writes uses roleOf plain topped placed plainN placedN misassigned misplaced positionedRight mispositioned firstBelow stageFive outAt shows clocked runFrom value showsNext settleAll orderOf namedIn mentions namesPin variablePin chosen maskBelow flipAt setBits tabled tableIn keep spread count columns before covers imp drops any filter prime verdict expand products primes factors digits number dropsN gradeN lent compiledOf meaning isGiven settingFor fifth fourth third second frontOf wholeOf parts-T tableOf bitsOf mask
+unfolding anyBelow tally listed nodesAt classOf run trees-valueOf fromEnd inverts registers keeps names replaced remains writes uses via topBelow meets firstBelow outAt value showsNext mentions namesPin variablePin chosen maskBelow flipAt setBits parts-T keep spread count imp drops any filter prime expand products primes number tableOf bitsOf mask
 sum-held = refl
 
 -- the values at n numbers from k on, from the front

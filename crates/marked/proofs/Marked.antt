@@ -1,8 +1,6 @@
 -- The marked examples are as document 01 says, by computation. Assumes nothing.
-use mathlib.Core.Path.{_≡_, refl}
-use mathlib.Core.List.{List, [], _∷_}
-use Prim.Native.Nat.{ℕ}
-use Rattle.marked.specs.Examples.{Example, examples, AllFit, none, more}
+use mathlib.Core.Path.{refl}
+use Rattle.marked.specs.Examples.{examples, AllFit, none, more}
 use Rattle.basics.specs.Below.{anyBelow, allBelow, tally, listed}
 use Rattle.words.specs.Bytes.{isBlank, isLetter, isDigit, isSingle, isPair, turnOf}
 use Rattle.words.specs.Words.{gap, endOf, prefixed, ofTwo, ofThree, ofFour, ofFive, ofSix, keywordOf, named, nameAt, valueOf, numberAt, pairKind, pairAt, logicAt, formAt, wordAt, nextWord}

@@ -14,7 +14,7 @@ use Rattle.grammar.specs.Outcome.{Outcome, ok, no, levels}
 use Rattle.judging.specs.Reading.{State}
 use Rattle.readers.specs.Readers.{expressionOf}
 use Rattle.trees.specs.Layout.{Elements, elementsOf}
-use Rattle.meaning.specs.Circuit.{Circuit, outAt, runs}
+use Rattle.meaning.specs.Circuit.{outAt, runs}
 use Rattle.pins.specs.Variables.{countOf}
 use Rattle.question.specs.Question.{questionTable, asked}
 use Rattle.question.specs.declared.Asked.{Asked}
