@@ -17,6 +17,7 @@ use Rattle.words.specs.Words.{nextWord}
 use Rattle.grammar.specs.Outcome.{Outcome, ok, no, Built, built, bad, Turn, more, last, onWord, andThen, builtAt}
 use Rattle.grammar.specs.Grammar.{isSum, isProduct, indexSort, partSort, closed, turnWith, turnOn, onTurn, turn, chain, level, part, dotted, bracketed, pointed, named, muxThird, muxSecond, muxed, kept, regged, inverted, factor, term, expression, nested}
 use Rattle.grammar.specs.Trees.{Tree, literal, logic, plain, element, invert, apply, choose, hold, keep, trees, parsed}
+use Rattle.grammar.specs.Modules.{thenTurn, wordTurn, repeat}
 use Rattle.unroll.specs.Loops.{passTurn}
 use Rattle.unroll.proofs.Laws.{passing, pass-more, pass-last}
 
@@ -41,6 +42,33 @@ pub when-self : {A : Type 0} (P : A → ℕ → Type 0) (r : Outcome (Unit {0}) 
 when-self P (ok v e u) h = h v e refl
 when-self P (no n p u) h = tt
 
+-- the same of a turn: M holds where it goes on, P where it ends
+abbrev pub WhenT : {A : Type 0} → (A → ℕ → Type 0) → (A → ℕ → Type 0) → Turn (Unit {0}) A → Type 0
+WhenT M P (more v e u) = M v e
+WhenT M P (last r) = When P r
+
+pub whenT-pick : {A : Type 0} (M P : A → ℕ → Type 0) (b : Bool) (x y : Turn (Unit {0}) A) → (b ≡ true → WhenT M P x) → (b ≡ false → WhenT M P y) → WhenT M P (pick b x y)
+whenT-pick M P true x y f g = f refl
+whenT-pick M P false x y f g = g refl
+
+pub whenT-then : {A B : Type 0} (M P : B → ℕ → Type 0) (r : Outcome (Unit {0}) A) (f : A → ℕ → Unit {0} → Turn (Unit {0}) B)
+    → ((v : A) (e : ℕ) → r ≡ ok v e tt → WhenT M P (f v e tt)) → WhenT M P (thenTurn r f)
+whenT-then M P (ok v e u) f h = h v e refl
+whenT-then M P (no n p u) f h = tt
+
+pub when-on : {A : Type 0} (M P : A → ℕ → Type 0) (w : Turn (Unit {0}) A) (f : A → ℕ → Unit {0} → Outcome (Unit {0}) A) → WhenT M P w
+    → ((v : A) (e : ℕ) → M v e → When P (f v e tt)) → When P (onTurn w f)
+when-on M P (more v e u) f m h = h v e m
+when-on M P (last r) f m h = m
+
+-- what holds before each turn holds of them all
+pub when-repeat : {A : Type 0} (M P : A → ℕ → Type 0) (turn : A → ℕ → Unit {0} → Turn (Unit {0}) A)
+    → ((v : A) (at : ℕ) → M v at → WhenT M P (turn v at tt)) → (n : ℕ) (v : A) (at : ℕ) → M v at → When P (repeat turn n v at tt)
+unfolding repeat
+when-repeat M P turn h zero v at m = tt
+when-repeat M P turn h (suc n) v at m =
+    when-on M P (turn v at tt) (λ w e u. repeat turn n w e u) (h v at m) (λ w e m. when-repeat M P turn h n w e m)
+
 -- a word that is no end, no FOR and no END
 abbrev pub Calm : ℕ → Type 0
 Calm k = (eqb k 0 ≡ false) × (eqb k 200 ≡ false) × (eqb k 202 ≡ false)
@@ -54,6 +82,14 @@ module _ (s : List ℕ) where
   when-word P at f h = go (nextWord s at) refl
     where
       go : (w : Taken) → nextWord s at ≡ w → When P (onWord tt w f)
+      go (Word k st v c) q = h k st v c q
+      go (Refused n p) q = tt
+
+  pub whenT-word : {A : Type 0} (M P : A → ℕ → Type 0) (at : ℕ) (f : ℕ → ℕ → ℕ → ℕ → Turn (Unit {0}) A)
+      → ((k st v : ℕ) (c : Cursor) → nextWord s at ≡ Word k st v c → WhenT M P (f k st v (c .at))) → WhenT M P (wordTurn tt (nextWord s at) f)
+  whenT-word M P at f h = go (nextWord s at) refl
+    where
+      go : (w : Taken) → nextWord s at ≡ w → WhenT M P (wordTurn tt w f)
       go (Word k st v c) q = h k st v c q
       go (Refused n p) q = tt
 
