@@ -1,2 +1,3 @@
 pub mod Trace
 pub mod Balance
+pub mod Quiet
