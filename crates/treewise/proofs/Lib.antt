@@ -1,3 +1,4 @@
 pub mod Trace
 pub mod Balance
 pub mod Quiet
+pub mod Acts
