@@ -49,6 +49,24 @@ factor-name : {S A B : Type 0} (alg : Algebra S A B) (s : List ℕ) (inner : Boo
 unfolding factor
 factor-name alg s inner o at st v c x q = rw q refl
 
+-- the designator whose name is from st to e₀: the name alone, or an index behind it
+data Form (s : List ℕ) (st e₀ : ℕ) (w : Tree) (e : ℕ) : Type 0 where
+  alone : w ≡ plain st e₀ → e ≡ e₀ → Form s st e₀ w e
+  indexed : (k p v : ℕ) (c : Cursor) → nextWord s e₀ ≡ Word k p v c → eqb k 186 ≡ false → ((f : ℕ → ℕ → Aim) (a : Aim) → onPlain w f a ≡ a) → Form s st e₀ w e
+
+no-position : (k m : ℕ) → eqb k m ≡ true → eqb m 186 ≡ false → eqb k 186 ≡ false
+no-position k m b h = subst (λ (i : ℕ). eqb i 186 ≡ false) (sym (eqb-true k m b)) h
+
+named-form : (s : List ℕ) (d st e₀ : ℕ) → When (Form s st e₀) (named trees s (nested trees s d) 0 st e₀ tt)
+unfolding named bracketed pointed
+named-form s d st e₀ =
+    when-word s (Form s st e₀) e₀ _ (λ k p v c q.
+    when-pick (Form s st e₀) (eqb k 91) _ _
+    (λ b. when-then (Form s st e₀) (part trees s (nested trees s d) (indexSort 0) p 93 (c .at) tt) _ (λ i e r. indexed k p v c q (no-position k 91 b refl) (λ f a. refl))) (λ a.
+    when-pick (Form s st e₀) (eqb k 46) _ (ok (plain st e₀) e₀ tt)
+    (λ b. when-then (Form s st e₀) (dotted trees s (indexSort 0) (c .at) tt) _ (λ i e r. indexed k p v c q (no-position k 46 b refl) (λ f a. refl)))
+    (λ b. alone refl refl)))
+
 -- what holds where numbers were valued
 abbrev Given : Built State (List ℤ) → (List ℤ → State → Type 0) → Type 0
 Given (built zs y) P = P zs y
@@ -302,3 +320,126 @@ module _ (s t : List ℕ) (d : ℕ) where
           ≡ builtAt e (andBuilt b (λ u y. built tt (assignedIn (y .0) k (x .1) (y .1), y .1)))
       go (built z y) = refl
       go (bad k p y) = refl
+
+  -- ---- what stands behind a designator
+
+  module _ (b : Built State ℤ) (e₁ k p v : ℕ) (c : Cursor) (word : nextWord s e₁ ≡ Word k p v c) (x : State) where
+    behind-assign : (w : Tree) (e : ℕ) → eqb k 189 ≡ true → parsed s d (c .at) ≡ ok w e tt
+        → settled (behindOf s t d x (targetOn (builtAt e₁ b)))
+        ≡ builtAt e (onAim (aimOn b) x (λ k n. andBuilt (eval (reads s t) 2 w x) (λ u y. built tt (assignedIn (y .0) k (x .1) (y .1), y .1))))
+    behind-assign w e h q = go b
+      where
+        go : (b : Built State ℤ)
+            → settled (behindOf s t d x (targetOn (builtAt e₁ b)))
+            ≡ builtAt e (onAim (aimOn b) x (λ k n. andBuilt (eval (reads s t) 2 w x) (λ u y. built tt (assignedIn (y .0) k (x .1) (y .1), y .1))))
+        go (built z y) = rw (word, h) (assign-is (getD (y .0) 0 0 - 9) (c .at) x w e q)
+        go (bad n r y) = refl
+
+    behind-place : (e : ℕ) (f : ℕ → ℕ → Built State (Unit {0})) → eqb k 189 ≡ false → eqb k 186 ≡ true
+        → ((i n : ℕ) → settled (positionOf s t d i n (c .at) x) ≡ builtAt e (f i n))
+        → settled (behindOf s t d x (targetOn (builtAt e₁ b))) ≡ builtAt e (onAim (aimOn b) x f)
+    behind-place e f h h′ q = go b
+      where
+        go : (b : Built State ℤ) → settled (behindOf s t d x (targetOn (builtAt e₁ b))) ≡ builtAt e (onAim (aimOn b) x f)
+        go (built z y) = rw (word, h, h′) (q (getD (y .0) 0 0 - 9) 0)
+        go (bad n r y) = refl
+
+  whole-place : (st at : ℕ) (x : State) (m : Meaning) (e : ℕ) (f : ℕ → ℕ → Built State (Unit {0}))
+      → ((i n : ℕ) → settled (positionOf s t d i n at x) ≡ builtAt e (f i n)) → settled (placedOf s t d st at x m) ≡ builtAt e (onAim (wholeOn st m) x f)
+  whole-place st at x nothing e f q = refl
+  whole-place st at x (valued z) e f q = refl
+  whole-place st at x (signal i n) e f q = q i n
+
+  -- a simple statement is counted first
+  counts : (f : State → Built State (Unit {0})) (st e₀ e : ℕ) (x : State) → ((y : State) → settled (actOf s t d st e₀ y) ≡ builtAt e (f y))
+      → settled (simpleOf s t d st e₀ x) ≡ builtAt e (counted st f x)
+  unfolding simpleOf counted
+  counts f st e₀ e x h = go (allows (x .0) usedAt 4096)
+    where
+      go : (b : Bool)
+          → settled (pick b (actOf s t d st e₀ (oneMore (x .0) usedAt 4096, x .1)) (no 6 st x))
+          ≡ builtAt e (pick b (f (oneMore (x .0) usedAt 4096, x .1)) (bad 6 st x))
+      go true = h (oneMore (x .0) usedAt 4096, x .1)
+      go false = refl
+
+  module _ (small : length s ≤ 65535) (at st v₀ : ℕ) (c₀ : Cursor) (name : nextWord s at ≡ Word 1 st v₀ c₀) where
+    act-behind : (k p v : ℕ) (c : Cursor) (x : State) (w : Tree) (e : ℕ) → nextWord s (c₀ .at) ≡ Word k p v c → eqb k 186 ≡ false
+        → named trees s (nested trees s d) 0 st (c₀ .at) tt ≡ ok w e tt
+        → actOf s t d st (c₀ .at) x ≡ behindOf s t d x (targetOn (builtAt e (eval (reads s t) 2 w (0 ∷ [], 0))))
+    unfolding actOf targetOf
+    act-behind k p v c x w e q b h =
+        rw (q, b) (ap (λ (r : Outcome State ℤ). behindOf s t d x (targetOn r)) (named-is 2 at st v₀ c₀ (0 ∷ [], 0) w e name h))
+
+    act-whole : (k p v : ℕ) (c : Cursor) (x : State) → nextWord s (c₀ .at) ≡ Word k p v c → eqb k 186 ≡ true
+        → actOf s t d st (c₀ .at) x ≡ placedOf s t d st (c .at) x (meaningOf s t st (c₀ .at))
+    unfolding actOf
+    act-whole k p v c x q b = rw (q, b) refl
+
+    module _ (w : Tree) (e₁ : ℕ) (read : named trees s (nested trees s d) 0 st (c₀ .at) tt ≡ ok w e₁ tt) (k p v : ℕ) (c : Cursor)
+        (word : nextWord s e₁ ≡ Word k p v c) where
+      assign-acts : (u : Tree) (e : ℕ) → eqb k 189 ≡ true → parsed s d (c .at) ≡ ok u e tt → (y : State)
+          → settled (actOf s t d st (c₀ .at) y) ≡ builtAt e (assigned s t w u y)
+      unfolding assigned targetIn
+      assign-acts u e h q y = go (when-is (Form s st (c₀ .at)) (named trees s (nested trees s d) 0 st (c₀ .at) tt) w e₁ read (named-form s d st (c₀ .at)))
+        where
+          go : Form s st (c₀ .at) w e₁ → settled (actOf s t d st (c₀ .at) y)
+              ≡ builtAt e (onAim (aimOn (eval (reads s t) 2 w (0 ∷ [], 0))) y (λ k n. andBuilt (eval (reads s t) 2 u y) (λ z x. built tt (assignedIn (x .0) k (y .1) (x .1), x .1))))
+          go (alone i j) =
+              ap settled (act-behind k p v c y w e₁ (subst (λ (i : ℕ). nextWord s i ≡ Word k p v c) j word) (no-position k 189 h refl) read)
+              ∙ behind-assign (eval (reads s t) 2 w (0 ∷ [], 0)) e₁ k p v c word y u e h q
+          go (indexed k′ p′ v′ c′ i j l) =
+              ap settled (act-behind k′ p′ v′ c′ y w e₁ i j read)
+              ∙ behind-assign (eval (reads s t) 2 w (0 ∷ [], 0)) e₁ k p v c word y u e h q
+
+      place-acts : (e : ℕ) (f : ℕ → ℕ → Built State (Unit {0})) → eqb k 189 ≡ false → eqb k 186 ≡ true → (y : State)
+          → ((i n : ℕ) → settled (positionOf s t d i n (c .at) y) ≡ builtAt e (f i n))
+          → settled (actOf s t d st (c₀ .at) y) ≡ builtAt e (onAim (siteIn s t w) y f)
+      unfolding siteIn targetIn
+      place-acts e f h h′ y q = go (when-is (Form s st (c₀ .at)) (named trees s (nested trees s d) 0 st (c₀ .at) tt) w e₁ read (named-form s d st (c₀ .at)))
+        where
+          go : Form s st (c₀ .at) w e₁ → settled (actOf s t d st (c₀ .at) y)
+              ≡ builtAt e (onAim (onPlain w (λ st e. wholeOn st (meaningOf s t st e)) (aimOn (eval (reads s t) 2 w (0 ∷ [], 0)))) y f)
+          go (alone i j) =
+              ap settled (act-whole k p v c y (subst (λ (i : ℕ). nextWord s i ≡ Word k p v c) j word) h′)
+              ∙ whole-place st (c .at) y (meaningOf s t st (c₀ .at)) e f q
+              ∙ ap (λ (w : Tree). builtAt e (onAim (onPlain w (λ st e. wholeOn st (meaningOf s t st e)) (aimOn (eval (reads s t) 2 w (0 ∷ [], 0)))) y f)) (sym i)
+          go (indexed k′ p′ v′ c′ i j l) =
+              ap settled (act-behind k′ p′ v′ c′ y w e₁ i j read)
+              ∙ behind-place (eval (reads s t) 2 w (0 ∷ [], 0)) e₁ k p v c word y e f h h′ q
+              ∙ ap (λ (a : Aim). builtAt e (onAim a y f)) (sym (l (λ st e. wholeOn st (meaningOf s t st e)) (aimOn (eval (reads s t) 2 w (0 ∷ [], 0)))))
+
+    -- a simple statement does what its tree says
+    pub simple-is : (x : State)
+        → When (λ u e. settled (simpleOf s t d st (c₀ .at) x) ≡ builtAt e (carried s t u x)) (simple trees treeForms s d st (c₀ .at) tt)
+    unfolding simple aimed positioned carried placed placedAll
+    simple-is x =
+        when-then Does (named trees s (nested trees s d) 0 st (c₀ .at) tt) (aimed trees treeForms s d st) (λ w e₁ read.
+        when-word s Does e₁ _ (λ k p v c word.
+        when-pick Does (eqb k 189) _ _
+        (λ h. when-then Does (parsed s d (c .at)) _ (λ u e q.
+        counts (assigned s t w u) st (c₀ .at) e x (assign-acts w e₁ read k p v c word u e h q))) (λ h.
+        when-pick Does (eqb k 186) _ (no 2 p tt)
+        (λ h′. when-word s Does (c .at) _ (λ k₂ p₂ v₂ c₂ word₂.
+        when-pick Does (eqb k₂ 91) _ _
+        (λ b. when-then Does (numbers trees treeForms s d p₂ (c₂ .at) tt) _ (λ l e q.
+        counts (placedAll s t w l) st (c₀ .at) e x (λ y.
+        place-acts w e₁ read k p v c word e (λ i n. andBuilt (valuesIn s t l y) (λ zs y.
+        built tt (pick (eqb (length zs) n) (givenFrom (y .0) i zs) (miscountedFrom (y .0) i (pick (eqb n 0) 1 n)), y .1))) h h′ y (λ i n.
+        ap settled (list-at i n (c .at) y k₂ p₂ v₂ c₂ word₂ b) ∙ list-is small p₂ (c₂ .at) i y n l e q))))
+        (λ b. when-then Does (parsed s d (c .at)) _ (λ u e q.
+        counts (placed s t w u) st (c₀ .at) e x (λ y.
+        place-acts w e₁ read k p v c word e (λ i n. andBuilt (eval (reads s t) 1 u y) (λ z y.
+        built tt (pick (eqb n 0) (positionedIn (y .0) i z) (miscountedFrom (y .0) i n), y .1))) h h′ y (λ i n.
+        ap settled (one-at i n (c .at) y k₂ p₂ v₂ c₂ word₂ b) ∙ one-is i n (c .at) y u e q))))))
+        (λ h. tt))))
+      where
+        Does : Statements → ℕ → Type 0
+        Does u e = settled (simpleOf s t d st (c₀ .at) x) ≡ builtAt e (carried s t u x)
+
+        list-at : (i n at : ℕ) (y : State) (k p v : ℕ) (c : Cursor) → nextWord s at ≡ Word k p v c → eqb k 91 ≡ true
+            → positionOf s t d i n at y ≡ listOf s t d i n (c .at) y
+        list-at i n at y k p v c q b = unfold positionOf in rw (q, b) refl
+
+        one-at : (i n at : ℕ) (y : State) (k p v : ℕ) (c : Cursor) → nextWord s at ≡ Word k p v c → eqb k 91 ≡ false
+            → positionOf s t d i n at y ≡ oneOf s t d i n at y
+        one-at i n at y k p v c q b = unfold positionOf in rw (q, b) refl
