@@ -2,3 +2,4 @@ pub mod Trace
 pub mod Balance
 pub mod Quiet
 pub mod Acts
+pub mod Loops
