@@ -3,3 +3,4 @@ pub mod Balance
 pub mod Quiet
 pub mod Acts
 pub mod Loops
+pub mod Spelt
