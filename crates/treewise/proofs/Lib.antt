@@ -4,3 +4,4 @@ pub mod Quiet
 pub mod Acts
 pub mod Loops
 pub mod Spelt
+pub mod Listed

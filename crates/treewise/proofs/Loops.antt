@@ -32,7 +32,7 @@ use Rattle.treewise.proofs.Balance.{body-passed}
 use Rattle.treewise.proofs.Acts.{settled, read-is, simple-is}
 
 -- the word k where it must stand
-closed-is : {S A : Type 0} (s : List ℕ) (k : ℕ) (v : A) (at e : ℕ) (x : S) → Stands s k at e → closed s k v at x ≡ ok v e x
+pub closed-is : {S A : Type 0} (s : List ℕ) (k : ℕ) (v : A) (at e : ℕ) (x : S) → Stands s k at e → closed s k v at x ≡ ok v e x
 unfolding closed
 closed-is s k v at e x w = rw (w .taken, eq-eqb k k refl) (ap (λ (i : ℕ). ok v i x) (w .ends))
 
@@ -40,18 +40,40 @@ closed-is s k v at e x w = rw (w .taken, eq-eqb k k refl) (ap (λ (i : ℕ). ok 
 abbrev againOn : Outcome State (Unit {0}) → Turn State ℤ
 againOn o = thenTurn o (λ v e y. more (pos 0) e y)
 
-after-then : {A B C : Type 0} (b : Built State A) (f : A → State → Built State B) (g : B → State → Outcome State C)
+pub after-then : {A B C : Type 0} (b : Built State A) (f : A → State → Built State B) (g : B → State → Outcome State C)
     → afterBuilt b (λ v y. afterBuilt (f v y) g) ≡ afterBuilt (andBuilt b f) g
 after-then (built v y) f g = refl
 after-then (bad n p y) f g = refl
 
-after-alike : {A B : Type 0} (b : Built State A) (f g : A → State → Outcome State B) → ((v : A) (y : State) → f v y ≡ g v y) → afterBuilt b f ≡ afterBuilt b g
+pub after-alike : {A B : Type 0} (b : Built State A) (f g : A → State → Outcome State B) → ((v : A) (y : State) → f v y ≡ g v y) → afterBuilt b f ≡ afterBuilt b g
 after-alike (built v y) f g h = h v y
 after-alike (bad n p y) f g h = refl
 
 settled-after : (b : Built State (Unit {0})) (v : ℤ) (e : ℕ) → settled (afterBuilt b (λ u z. ok v e z)) ≡ builtAt e b
 settled-after (built u y) v e = refl
 settled-after (bad n p y) v e = refl
+
+module _ (s : List ℕ) where
+  -- an expression and the word k behind it
+  abbrev pub Ends : ℕ → ℕ → ℕ → Tree → ℕ → Type 0
+  Ends d k at w e = (m : ℕ) × (parsed s d at ≡ ok w m tt) × Stands s k m e
+
+  pub upTo-ends : (d k at : ℕ) → When (Ends d k at) (upTo trees treeForms s 0 d k at tt)
+  unfolding upTo
+  upTo-ends d k at = when-then (Ends d k at) (parsed s d at) (closed s k) (λ w m q. when-closed s (Ends d k at) k w m (λ e o. (m, q, o)))
+
+  abbrev pub GivenEnds : ℕ → ℕ → ℕ → Tree → ℕ → Type 0
+  GivenEnds d k at w e = (j : ℕ) × Stands s 189 at j × Ends d k j w e
+
+  pub given-ends : (d k at : ℕ) → When (GivenEnds d k at) (given trees treeForms s 0 d k at tt)
+  unfolding given
+  given-ends d k at =
+      when-then (GivenEnds d k at) (must s 189 at tt) _ (λ u j q.
+      when-self (GivenEnds d k at) (upTo trees treeForms s 0 d k j tt) (λ w e h. (
+        j,
+        when-is (λ u j. Stands s 189 at j) (must s 189 at tt) tt j q (when-closed s (λ u j. Stands s 189 at j) 189 tt at (λ e o. o)),
+        when-is (Ends d k j) (upTo trees treeForms s 0 d k j tt) w e h (upTo-ends d k j),
+      )))
 
 module _ (s : List ℕ) (small : length s ≤ 65535) where
   -- ---- statements, of which the FOR do what their trees say
@@ -126,27 +148,6 @@ module _ (s : List ℕ) (small : length s ≤ 65535) where
 
   -- ---- a FOR, whose body does what its tree says
 
-  -- an expression and the word k behind it
-  Ends : ℕ → ℕ → ℕ → Tree → ℕ → Type 0
-  Ends d k at w e = (m : ℕ) × (parsed s d at ≡ ok w m tt) × Stands s k m e
-
-  upTo-ends : (d k at : ℕ) → When (Ends d k at) (upTo trees treeForms s 0 d k at tt)
-  unfolding upTo Ends
-  upTo-ends d k at = when-then (Ends d k at) (parsed s d at) (closed s k) (λ w m q. when-closed s (Ends d k at) k w m (λ e o. (m, q, o)))
-
-  GivenEnds : ℕ → ℕ → ℕ → Tree → ℕ → Type 0
-  GivenEnds d k at w e = (j : ℕ) × Stands s 189 at j × Ends d k j w e
-
-  given-ends : (d k at : ℕ) → When (GivenEnds d k at) (given trees treeForms s 0 d k at tt)
-  unfolding given GivenEnds
-  given-ends d k at =
-      when-then (GivenEnds d k at) (must s 189 at tt) _ (λ u j q.
-      when-self (GivenEnds d k at) (upTo trees treeForms s 0 d k j tt) (λ w e h. (
-        j,
-        when-is (λ u j. Stands s 189 at j) (must s 189 at tt) tt j q (when-closed s (λ u j. Stands s 189 at j) 189 tt at (λ e o. o)),
-        when-is (Ends d k j) (upTo trees treeForms s 0 d k j tt) w e h (upTo-ends d k j),
-      )))
-
   module _ (d : ℕ) (t : List ℕ) (p st e q n r : ℕ) (u : Statements)
       (body : (l : List ℕ) (y : State) → settled (statementsOf s d l q y) ≡ builtAt n (carried s l u y)) where
     round-is : (z : ℤ) (x : State)
@@ -188,11 +189,11 @@ module _ (s : List ℕ) (small : length s ≤ 65535) where
     unfolding loopOf
     loop-is a b x h = rw h (turns-are (roundsOf a b) a x)
 
-    module _ (passed : passedOf s q ≡ ok 0 r tt) (w₂ : Tree) (at₂ : ℕ) (upper : Ends d 201 at₂ w₂ q) where
+    module _ (passed : passedOf s q ≡ ok 0 r tt) (w₂ : Tree) (at₂ : ℕ) (upper : Ends s d 201 at₂ w₂ q) where
       upper-is : (a : ℤ) (x : State)
           → settled (andThen (upperOf s t d st e a at₂ x) (λ h q y. loopOf s t (λ l q y. statementsWith s l d (forOf s d l) q y) p (h .first) (h .past) (h .low) (h .high) q y))
           ≡ builtAt r (andBuilt (eval (reads s t) 1 w₂ x) (λ b z. roundsIn (λ l y. carried s l u y) t p st e (roundsOf a b) a z))
-      unfolding upperOf Ends
+      unfolding upperOf
       upper-is a x = rw (read-is s t d 1 at₂ x w₂ (upper .0) (upper .1)) (go (eval (reads s t) 1 w₂ x))
         where
           go : (b : Built State ℤ)
@@ -202,11 +203,11 @@ module _ (s : List ℕ) (small : length s ≤ 65535) where
           go (built b z) = rw (closed-is s 201 b (upper .0) q z (upper .2)) (loop-is a b z passed)
           go (bad k v z) = refl
 
-      module _ (w₁ : Tree) (lower : GivenEnds d 174 e w₁ at₂) where
+      module _ (w₁ : Tree) (lower : GivenEnds s d 174 e w₁ at₂) where
         range-is : (x : State)
             → settled (andThen (rangeOf s t d st e x) (λ h q y. loopOf s t (λ l q y. statementsWith s l d (forOf s d l) q y) p (h .first) (h .past) (h .low) (h .high) q y))
             ≡ builtAt r (carried s t (loop p st e w₁ w₂ q u) x)
-        unfolding rangeOf lowerOf GivenEnds Ends carried
+        unfolding rangeOf lowerOf carried
         range-is x =
             rw (lower .1 .taken, lower .1 .ends, read-is s t d 1 (lower .0) x w₁ (lower .2 .0) (lower .2 .1)) (go (eval (reads s t) 1 w₁ x))
           where
@@ -239,8 +240,8 @@ module _ (s : List ℕ) (small : length s ≤ 65535) where
           rw (g, b) (range-is d t p st (c .at) q n r u
           (λ l y. ap settled (when-is (Ran d l (ih l) q y) (sequence trees treeForms s d q tt) u n h (statements-run d l (ih l) q y) r o) ∙ settled-after (carried s l u y) (pos 0) n)
           (body-passed s d q u n r (omega arith) h o)
-          w₂ at₂ (when-is (Ends d 201 at₂) (upTo trees treeForms s 0 d 201 at₂ tt) w₂ q high (upTo-ends d 201 at₂))
-          w₁ (when-is (GivenEnds d 174 (c .at)) (given trees treeForms s 0 d 174 (c .at) tt) w₁ at₂ low (given-ends d 174 (c .at))) x))))))
+          w₂ at₂ (when-is (Ends s d 201 at₂) (upTo trees treeForms s 0 d 201 at₂ tt) w₂ q high (upTo-ends s d 201 at₂))
+          w₁ (when-is (GivenEnds s d 174 (c .at)) (given trees treeForms s 0 d 174 (c .at) tt) w₁ at₂ low (given-ends s d 174 (c .at))) x))))))
           (λ b. tt))
 
   -- statements that END follows do what their tree says: they end where it ends, with the state that it leaves, or have its refusal
