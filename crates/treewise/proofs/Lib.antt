@@ -5,3 +5,4 @@ pub mod Acts
 pub mod Loops
 pub mod Spelt
 pub mod Listed
+pub mod Declares

@@ -36,7 +36,7 @@ use Rattle.treewise.proofs.Loops.{closed-is, after-then, after-alike, E
 use Rattle.treewise.proofs.Spelt.{Lies, name-lies, comma-lies, comma-unlike}
 
 -- a walk along names that goes on where they are new
-abbrev freshThen : Fresh → Outcome (Unit {0}) ℕ → Outcome (Unit {0}) ℕ
+abbrev pub freshThen : Fresh → Outcome (Unit {0}) ℕ → Outcome (Unit {0}) ℕ
 freshThen new r = r
 freshThen (old p) r = no 4 p tt
 
@@ -128,7 +128,7 @@ module _ (s : List ℕ) where
         turned-on : elementTurn s k n t at y ≡ more t (c .at) y
         turned-on = unfold elementTurn in rw q refl
 
-  element-colon : (at e k n : ℕ) (t : List ℕ) (y : State) → Stands s 58 at e → elements s k n t at y ≡ ok t at y
+  pub element-colon : (at e k n : ℕ) (t : List ℕ) (y : State) → Stands s 58 at e → elements s k n t at y ≡ ok t at y
   element-colon at e k n t y w = elements-last s k n t at y (ok t at y) turned-last
     where
       turned-last : elementTurn s k n t at y ≡ last (ok t at y)
@@ -141,7 +141,7 @@ module _ (s : List ℕ) where
         turned-on : freshTurn s t first 0 at tt ≡ more 0 (c .at) tt
         turned-on = unfold freshTurn in rw q refl
 
-    fresh-colon : (t : List ℕ) (at e : ℕ) → Stands s 58 at e → rest s t first at ≡ ok 0 e tt
+    pub fresh-colon : (t : List ℕ) (at e : ℕ) → Stands s 58 at e → rest s t first at ≡ ok 0 e tt
     fresh-colon t at e w = fresh-last s t first at (ok 0 (w .next .at) tt) turned-last ∙ ap (λ (i : ℕ). ok 0 i tt) (w .ends)
       where
         turned-last : freshTurn s t first 0 at tt ≡ last (ok 0 (w .next .at) tt)
@@ -213,7 +213,7 @@ module _ (s : List ℕ) where
             ∙ ap (λ (b : Bool). standsIn s l st (c .at) || b) (ap isBack (back-comma i st₁ v₁ c₁ q₁ st (c .at) name) ∙ back-self (c₁ .at) st v c q (c .at))
             ∙ or-none (standsIn s l st (c .at))
 
-    names-are : (st v : ℕ) (c : Cursor) → nextWord s first ≡ Word 1 st v c → When Names-are (nameList trees treeForms s st (c .at) tt)
+    pub names-are : (st v : ℕ) (c : Cursor) → nextWord s first ≡ Word 1 st v c → When Names-are (nameList trees treeForms s st (c .at) tt)
     unfolding nameList nameTurn anotherName
     names-are st v c q =
         when-repeat Names-are Names-are (nameTurn trees treeForms s) (λ l i m.
