@@ -6,3 +6,4 @@ pub mod Loops
 pub mod Spelt
 pub mod Listed
 pub mod Declares
+pub mod Whole

@@ -1,2 +1,3 @@
 pub mod Unrolled
 pub mod Declared
+pub mod Staged
