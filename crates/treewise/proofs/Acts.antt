@@ -3,36 +3,35 @@
 use mathlib.Core.Path.{_≡_, refl, sym, ap, subst, _∙_}
 use mathlib.Core.Bool.{Bool, true, false}
 use mathlib.Core.List.{List, [], _∷_, _++_}
-use Prim.Native.Nat.{ℕ, zero, suc, _+_, _-_, _<_, _≤_}
+use Prim.Native.Nat.{ℕ, suc, _+_, _-_, _<_, _≤_}
 use native.Mathlib.Omega.{arith}
 use native.Mathlib.Nat.{add-zero}
 use lib.ListN.{length, getD, length-append}
-use lib.Dec.{eqb, ltb}
-use lib.IntN.{ℤ, pos, negsuc}
+use lib.Dec.{eqb}
+use lib.IntN.{ℤ, pos}
 use borrow.Author.Tests.{lt-ltb, eqb-true}
 use Rattle.basics.specs.Choice.{pick}
 use Rattle.words.specs.declared.Cursor.{Cursor}
-use Rattle.words.specs.declared.Taken.{Taken}
-use Rattle.words.specs.declared.Taken.the-variants.{Word, Refused}
+use Rattle.words.specs.declared.Taken.the-variants.{Word}
 use Rattle.words.specs.Words.{nextWord}
 use Rattle.integers.specs.Integers.{nextℤ}
-use Rattle.grammar.specs.Outcome.{Outcome, ok, no, Built, built, bad, Turn, more, last, onWord, andThen, builtAt, afterBuilt, andBuilt}
-use Rattle.grammar.specs.Grammar.{Algebra, named, bracketed, pointed, part, dotted, factor, expression, nested, indexSort}
-use Rattle.grammar.specs.Trees.{Tree, plain, element, trees, eval, parsed}
-use Rattle.grammar.specs.Modules.{thenTurn, wordTurn, repeat, numberTurn as treeNumber, numbers, positioned, aimed, simple}
-use Rattle.grammar.specs.Forms.{Numbers, noNumbers, andNumber, Statements, assign, place, places, treeForms}
+use Rattle.grammar.specs.Outcome.{Outcome, ok, no, Built, built, bad, more, last, andThen, builtAt, afterBuilt, andBuilt}
+use Rattle.grammar.specs.Grammar.{Algebra, named, bracketed, pointed, part, dotted, factor, nested, indexSort}
+use Rattle.grammar.specs.Trees.{Tree, plain, trees, eval, parsed}
+use Rattle.grammar.specs.Modules.{numberTurn as treeNumber, numbers, positioned, aimed, simple}
+use Rattle.grammar.specs.Forms.{Numbers, noNumbers, andNumber, Statements, treeForms}
 use Rattle.grammar.proofs.Agree.{Agree, agree-nested, reads-meaning}
 use Rattle.grammar.proofs.Chain.{Past, past-nested}
 use Rattle.judging.specs.Judging.{Meaning, valued, signal, nothing, meaningOf}
 use Rattle.judging.specs.Reading.{State, reads}
-use Rattle.readers.specs.Readers.{innerOf, indexOf, expressionOf}
+use Rattle.readers.specs.Readers.{indexOf, expressionOf}
 use Rattle.readers.proofs.Links.{word-past}
 use Rattle.parts.specs.Parts.{usedAt, allows, oneMore, assignedIn, positionedIn, miscountedFrom}
-use Rattle.simple.specs.Statements.{Target, missed, targetOn, upward, targetOf, assignmentOf, gaveOf, numberTurn, numbersOf, countedOf, listOf, oneOf, positionOf, placedOf, behindOf, actOf, simpleOf}
+use Rattle.simple.specs.Statements.{targetOn, targetOf, assignmentOf, gaveOf, numberTurn, numbersOf, countedOf, listOf, oneOf, positionOf, placedOf, behindOf, actOf, simpleOf}
 use Rattle.simple.proofs.Laws.{rest, numbers-more, numbers-last}
-use Rattle.treewise.specs.Unrolled.{Aim, from, off, aimOn, wholeOn, onPlain, onAim, counted, givenFrom, targetIn, siteIn, assigned, placed, valuesIn, placedAll, carried}
-use Rattle.treewise.proofs.Trace.{When, WhenT, when-pick, when-then, when-is, when-self, whenT-pick, whenT-then, when-repeat, when-word, whenT-word, within-bracket}
-use Rattle.treewise.proofs.Quiet.{Known, gave, failed, stated, Quiet, quiet-eval}
+use Rattle.treewise.specs.Unrolled.{Aim, aimOn, wholeOn, onPlain, onAim, counted, givenFrom, targetIn, siteIn, assigned, placed, valuesIn, placedAll, carried}
+use Rattle.treewise.proofs.Trace.{When, when-pick, when-then, when-is, whenT-pick, whenT-then, when-repeat, when-word, whenT-word, within-bracket}
+use Rattle.treewise.proofs.Quiet.{Known, gave, failed, stated, quiet-eval}
 
 -- an answer without its value: the place past the part and the state, or the refusal
 abbrev pub settled : {A : Type 0} → Outcome State A → Outcome State (Unit {0})
@@ -230,10 +229,12 @@ module _ (s t : List ℕ) (d : ℕ) where
               let p : e < c .at = further e k 59 st v c word b (λ z. omega arith) in
               let n : length (zs ++ (z ∷ [])) ≡ length zs + 1 = count-next zs z in
               let y₂ : State = (givenFrom (y .0) f zs, y .1) in
-              subst After (sym (h y)) (omega arith,
-              m .1 ∙ number-more true f (pos (length zs)) i y₂ w e (within-bracket s d q i w e read .1) k st v c word z y₂ (h y₂) b
-              ∙ ap (λ (n : ℤ). rest s t d true f n (c .at) (positionedIn (givenFrom (y .0) f zs) (f + length zs) z, y .1)) (count-steps zs z (omega arith))
-              ∙ ap (λ (l : List ℕ). rest s t d true f (pos (length (zs ++ (z ∷ [])))) (c .at) (l, y .1)) (sym (given-next (y .0) f zs z)))
+              subst After (sym (h y)) (
+                omega arith,
+                m .1 ∙ number-more true f (pos (length zs)) i y₂ w e (within-bracket s d q i w e read .1) k st v c word z y₂ (h y₂) b
+                    ∙ ap (λ (n : ℤ). rest s t d true f n (c .at) (positionedIn (givenFrom (y .0) f zs) (f + length zs) z, y .1)) (count-steps zs z (omega arith))
+                    ∙ ap (λ (l : List ℕ). rest s t d true f (pos (length (zs ++ (z ∷ [])))) (c .at) (l, y .1)) (sym (given-next (y .0) f zs z)),
+              )
           go (failed n p) h = subst After (sym (h y)) tt
 
       given-last : (b : Built State (List ℤ))

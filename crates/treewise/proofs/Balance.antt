@@ -1,24 +1,20 @@
 -- FOR and END pair off in the statements of the grammar, so the END of a FOR's body is the one that is found by counting words.
 -- Assumes nothing.
-use mathlib.Core.Path.{_≡_, refl, sym, ap, subst, _∙_}
-use mathlib.Core.Bool.{Bool, true, false}
+use mathlib.Core.Path.{_≡_, refl, ap, _∙_}
+use mathlib.Core.Bool.{false}
 use mathlib.Core.List.{List}
-use Prim.Native.Nat.{ℕ, zero, suc, _+_, _-_, _<_, _≤_}
+use Prim.Native.Nat.{ℕ, zero, suc, _+_, _<_}
 use native.Mathlib.Omega.{arith}
 use lib.ListN.{length}
 use lib.Dec.{eqb}
-use Rattle.basics.specs.Choice.{pick}
-use Rattle.words.specs.declared.Cursor.{Cursor}
-use Rattle.words.specs.declared.Taken.the-variants.{Word}
-use Rattle.words.specs.Words.{nextWord}
-use Rattle.grammar.specs.Outcome.{Outcome, ok, no, Turn, more, last, onWord, andThen}
-use Rattle.grammar.specs.Grammar.{closed, expression, nested, named}
-use Rattle.grammar.specs.Trees.{Tree, trees, parsed}
-use Rattle.grammar.specs.Modules.{must, thenTurn, wordTurn, repeat, upTo, given, numberTurn, numbers, positioned, aimed, simple, statement, statementTurn, statements, looped, ranged, forFrom, forOf, sequence}
-use Rattle.grammar.specs.Forms.{Numbers, noNumbers, andNumber, Statements, nothing, andStatement, assign, place, places, loop, treeForms}
+use Rattle.grammar.specs.Outcome.{Outcome, ok, no, more, last}
+use Rattle.grammar.specs.Grammar.{closed, nested, named}
+use Rattle.grammar.specs.Trees.{trees, parsed}
+use Rattle.grammar.specs.Modules.{must, upTo, given, numberTurn, numbers, positioned, aimed, simple, statement, statementTurn, statements, looped, ranged, forFrom, forOf, sequence}
+use Rattle.grammar.specs.Forms.{noNumbers, andNumber, Statements, nothing, andStatement, loop, treeForms}
 use Rattle.unroll.specs.Loops.{passedOf}
 use Rattle.unroll.proofs.Laws.{passing}
-use Rattle.treewise.proofs.Trace.{When, WhenT, when-pick, when-then, when-is, when-self, whenT-pick, whenT-then, when-repeat, when-word, whenT-word, when-closed, Calm, calm-of, Stands, stands, pass-calm, pass-for, pass-end, pass-over, Steady, steady-expression, steady-named, within-bracket}
+use Rattle.treewise.proofs.Trace.{When, when-pick, when-then, when-is, when-self, whenT-pick, whenT-then, when-repeat, when-word, whenT-word, when-closed, Calm, calm-of, Stands, stands, pass-calm, pass-for, pass-end, pass-over, Steady, steady-expression, steady-named, within-bracket}
 
 module _ (s : List ℕ) where
   -- a word that stands within a statement
@@ -120,11 +116,11 @@ module _ (s : List ℕ) where
         let m : Steady s at (c .at) = λ l. pass-calm s l at k st v c g (calm-of k 1 (refl, refl, refl) b) in
         when-then (λ v e. passing s (l + 1) at ≡ passing s l e) (given trees treeForms s 0 d 174 (c .at) tt) _ (λ a i q.
         let m : Steady s at i =
-              steady-trans at (c .at) i m
-              (when-is (λ v e. Steady s (c .at) e) (given trees treeForms s 0 d 174 (c .at) tt) a i q (flat-given d 174 (c .at) (refl, refl, refl))) in
+        steady-trans at (c .at) i m
+        (when-is (λ v e. Steady s (c .at) e) (given trees treeForms s 0 d 174 (c .at) tt) a i q (flat-given d 174 (c .at) (refl, refl, refl))) in
         when-then (λ v e. passing s (l + 1) at ≡ passing s l e) (upTo trees treeForms s 0 d 201 i tt) (looped trees treeForms s d body p st (c .at) a) (λ b j q.
         let m : Steady s at j =
-              steady-trans at i j m (when-is (λ v e. Steady s i e) (upTo trees treeForms s 0 d 201 i tt) b j q (flat-upTo d 201 i (refl, refl, refl))) in
+        steady-trans at i j m (when-is (λ v e. Steady s i e) (upTo trees treeForms s 0 d 201 i tt) b j q (flat-upTo d 201 i (refl, refl, refl))) in
         when-then (λ v e. passing s (l + 1) at ≡ passing s l e) (body j tt) _ (λ t n q.
         when-closed s (λ v e. passing s (l + 1) at ≡ passing s l e) 202 (loop p st (c .at) a b j t) n (λ e w.
         m (l + 1) ∙ when-is (λ v e. passing s (l + 1) j ≡ passing s (l + 1) e) (body j tt) t n q (even (l + 1) j (omega arith)) ∙ pass-end s l n e w)))))

@@ -2,12 +2,12 @@
 -- Assumes nothing.
 use mathlib.Core.Path.{_≡_, refl, sym, ap, subst, _∙_}
 use mathlib.Core.Bool.{Bool, true, false}
-use mathlib.Core.List.{List, []}
-use Prim.Native.Nat.{ℕ, zero, suc, _+_, _-_, _<_, _≤_}
+use mathlib.Core.List.{List}
+use Prim.Native.Nat.{ℕ, suc, _+_, _-_}
 use native.Mathlib.Omega.{arith}
 use lib.ListN.{length}
 use lib.Dec.{eqb}
-use lib.IntN.{ℤ, pos, negsuc}
+use lib.IntN.{ℤ}
 use borrow.Author.Tests.{eqb-true}
 use Rattle.basics.specs.Choice.{pick}
 use Rattle.words.specs.declared.Cursor.{Cursor}
@@ -15,21 +15,20 @@ use Rattle.words.specs.declared.Taken.{Taken}
 use Rattle.words.specs.declared.Taken.the-variants.{Word, Refused}
 use Rattle.words.specs.Words.{nextWord}
 use Rattle.names.specs.Names.{lookedUp}
-use Rattle.grammar.specs.Outcome.{Outcome, ok, no, Built, built, bad, Turn, more, last, onWord, andThen, builtAt, afterBuilt, andBuilt, levels}
+use Rattle.grammar.specs.Outcome.{Outcome, ok, no, Built, built, bad, last, onWord, andThen, builtAt, afterBuilt, andBuilt, levels}
 use Rattle.grammar.specs.Grammar.{closed, part, nested, expression, term, factor, level, turned}
 use Rattle.grammar.specs.Trees.{Tree, trees, eval, parsed}
-use Rattle.grammar.specs.Modules.{must, thenTurn, wordTurn, repeat, given, constantTurn, nameList, arrayed, typed, typeOf as treeType, listTurn, constants, lists, outAndVar, declarations}
-use Rattle.grammar.specs.Forms.{Names, firstName, andName, Shape, bit, array, Declarations, undeclared, constant, signals, treeForms}
+use Rattle.grammar.specs.Modules.{must, given, constantTurn, nameList, arrayed, typed, typeOf as treeType, listTurn, constants, lists, outAndVar, declarations}
+use Rattle.grammar.specs.Forms.{Names, Shape, bit, array, Declarations, undeclared, constant, signals, treeForms}
 use Rattle.judging.specs.Reading.{State, reads}
 use Rattle.readers.specs.Readers.{expressionOf}
 use Rattle.parts.specs.Parts.{constantsAt, allows, oneMore}
 use Rattle.simple.specs.Statements.{upward}
-use Rattle.lists.specs.Lists.{isKnown, isLength, freshOf, closedType, lengthOn, lengthOf, typeOf}
-use Rattle.lists.proofs.Laws.{rest}
+use Rattle.lists.specs.Lists.{isKnown, isLength, closedType, lengthOn, lengthOf, typeOf}
 use Rattle.declare.specs.Declarations.{withConstant, elementsOf, listEnd, signalsFrom, signalsOf, constantEnd, constantFrom, constantOf, itemOf, itemTurn, itemsOf, sectionOf, sectionsOf, declarationsOf}
 use Rattle.declare.proofs.Laws.{elements, items, items-more, items-last}
 use Rattle.treewise.specs.Declared.{Fresh, new, old, unlessOld, startOf, elementsIn, freshIn, lengthIn, signalsIn, constantIn, declaredIn}
-use Rattle.treewise.proofs.Trace.{When, WhenT, when-pick, when-then, when-is, when-self, whenT-pick, whenT-then, when-repeat, when-word, whenT-word, when-closed, Stands, stands, within-bracket}
+use Rattle.treewise.proofs.Trace.{When, when-pick, when-then, when-is, when-self, whenT-pick, whenT-then, when-repeat, when-word, whenT-word, when-closed, Stands, within-bracket}
 use Rattle.treewise.proofs.Acts.{read-is}
 use Rattle.treewise.proofs.Loops.{closed-is, after-then, after-alike, Ends, GivenEnds, given-ends}
 use Rattle.treewise.proofs.Listed.{freshThen, Names-are, names-are, fresh-colon, element-colon}

@@ -1,38 +1,32 @@
 -- A list of signals, judged where it stands in the text, is judged as its tree says: its names are looked at again for those before each of them, and
 -- once more for their elements.
 -- Assumes nothing.
-use mathlib.Core.Path.{_≡_, refl, sym, ap, subst, _∙_}
+use mathlib.Core.Path.{_≡_, refl, ap, _∙_}
 use mathlib.Core.Bool.{Bool, true, false, _||_}
 use mathlib.Core.List.{List}
-use Prim.Native.Nat.{ℕ, zero, suc, _+_, _-_, _<_, _≤_}
+use Prim.Native.Nat.{ℕ, suc, _+_, _-_, _<_, _≤_}
 use native.Mathlib.Omega.{arith}
 use lib.ListN.{length, getD, set}
 use lib.Dec.{eqb, leb}
-use lib.IntN.{ℤ, pos, negsuc}
 use borrow.Author.Tests.{eqb-true, le-leb, lt-leb}
 use Rattle.basics.specs.Choice.{pick}
 use Rattle.words.specs.declared.Cursor.{Cursor}
-use Rattle.words.specs.declared.Taken.{Taken}
-use Rattle.words.specs.declared.Taken.the-variants.{Word, Refused}
+use Rattle.words.specs.declared.Taken.the-variants.{Word}
 use Rattle.words.specs.Words.{nextWord}
 use Rattle.names.specs.Names.{lookedUp, extended, spelling, same}
-use Rattle.grammar.specs.Outcome.{Outcome, ok, no, Built, built, bad, Turn, more, last, onWord, andThen, builtAt, afterBuilt, andBuilt, levels}
-use Rattle.grammar.specs.Grammar.{closed, part, nested, expression, term, factor, level, turned}
-use Rattle.grammar.specs.Trees.{Tree, trees, eval, parsed}
-use Rattle.grammar.specs.Modules.{must, thenTurn, wordTurn, repeat, nameTurn, anotherName, nameList, arrayed, typed}
-use Rattle.grammar.specs.Forms.{Names, firstName, andName, Shape, bit, array, treeForms}
-use Rattle.judging.specs.Reading.{State, reads}
-use Rattle.readers.specs.Readers.{expressionOf}
-use Rattle.parts.specs.Parts.{elementsAt, constantsAt, allows, oneMore, declaredFrom}
-use Rattle.simple.specs.Statements.{upward}
-use Rattle.lists.specs.Lists.{isKnown, isLength, backTurn, backOf, isBack, freshName, freshTurn, freshOf, closedType, lengthOn, lengthOf, typeOf}
+use Rattle.grammar.specs.Outcome.{Outcome, ok, no, built, bad, more, last, afterBuilt}
+use Rattle.grammar.specs.Trees.{trees}
+use Rattle.grammar.specs.Modules.{nameTurn, anotherName, nameList}
+use Rattle.grammar.specs.Forms.{Names, firstName, andName, treeForms}
+use Rattle.judging.specs.Reading.{State}
+use Rattle.parts.specs.Parts.{elementsAt, declaredFrom}
+use Rattle.lists.specs.Lists.{isKnown, backTurn, backOf, isBack, freshName, freshTurn, freshOf}
 use Rattle.lists.proofs.Laws.{back, back-more, back-last, rest, fresh-more, fresh-last}
-use Rattle.declare.specs.Declarations.{withConstant, widthOf, elementName, elementTurn, elementsOf, listEnd, signalsFrom, signalsOf, constantEnd, constantFrom, constantOf}
+use Rattle.declare.specs.Declarations.{widthOf, elementName, elementTurn, elementsOf}
 use Rattle.declare.proofs.Laws.{elements, elements-more, elements-last}
-use Rattle.treewise.specs.Declared.{Fresh, new, old, alsoNew, unlessOld, startOf, elementIn, elementsIn, standsIn, freshIn, lengthIn, signalsIn, constantIn}
-use Rattle.treewise.proofs.Trace.{When, WhenT, when-pick, when-then, when-is, when-self, whenT-pick, whenT-then, when-repeat, when-word, whenT-word, when-closed, Stands, stands, within-bracket}
-use Rattle.treewise.proofs.Acts.{read-is}
-use Rattle.treewise.proofs.Loops.{closed-is, after-then, after-alike, Ends, GivenEnds}
+use Rattle.treewise.specs.Declared.{Fresh, new, old, alsoNew, elementIn, elementsIn, standsIn, freshIn}
+use Rattle.treewise.proofs.Trace.{When, whenT-pick, when-repeat, whenT-word, Stands}
+use Rattle.treewise.proofs.Loops.{after-then, after-alike}
 use Rattle.treewise.proofs.Spelt.{Lies, name-lies, comma-lies, comma-unlike}
 
 -- a walk along names that goes on where they are new
@@ -177,19 +171,19 @@ module _ (s : List ℕ) where
     unfolding standsIn freshIn elementsIn
     another-are l i st₁ v₁ c₁ st v c q₁ q m = record {
       walked = λ st′ e′ h.
-        m .walked st′ e′ (nearer s i (c .at) st′ e′ true far h)
-        ∙ ap (λ (b : Bool). standsIn s l st′ e′ || b)
-        (ap isBack (back-comma i st₁ v₁ c₁ q₁ st′ e′ (nearer s (c₁ .at) (c .at) st′ e′ true far₁ h)) ∙ back-name (c₁ .at) st v c q st′ e′ h)
-        ∙ or-moves (standsIn s l st′ e′) (same (spelling s st (c .at - st)) (spelling s st′ (e′ - st′))) (isBack (back s st′ e′ (c .at)));
+          m .walked st′ e′ (nearer s i (c .at) st′ e′ true far h)
+          ∙ ap (λ (b : Bool). standsIn s l st′ e′ || b)
+          (ap isBack (back-comma i st₁ v₁ c₁ q₁ st′ e′ (nearer s (c₁ .at) (c .at) st′ e′ true far₁ h)) ∙ back-name (c₁ .at) st v c q st′ e′ h)
+          ∙ or-moves (standsIn s l st′ e′) (same (spelling s st (c .at - st)) (spelling s st′ (e′ - st′))) (isBack (back s st′ e′ (c .at)));
       fresh = λ t.
-        m .fresh t
-        ∙ ap (freshThen (freshIn s t l)) (fresh-comma t i st₁ v₁ c₁ q₁ ∙ fresh-at t (c₁ .at) st v c (standsIn s l st (c .at)) q before)
-        ∙ fresh-also (freshIn s t l) (pick (isKnown (lookedUp s t st (c .at - st)) || standsIn s l st (c .at)) (old st) new) (rest s t first (c .at));
+          m .fresh t
+          ∙ ap (freshThen (freshIn s t l)) (fresh-comma t i st₁ v₁ c₁ q₁ ∙ fresh-at t (c₁ .at) st v c (standsIn s l st (c .at)) q before)
+          ∙ fresh-also (freshIn s t l) (pick (isKnown (lookedUp s t st (c .at - st)) || standsIn s l st (c .at)) (old st) new) (rest s t first (c .at));
       made = λ k n t y.
-        m .made k n t y
-        ∙ after-alike (elementsIn k n t l y) (λ u z. elements s k n u i z) (λ u z. afterBuilt (elementIn k n u st (c .at) z) (λ u z. elements s k n u (c .at) z))
-        (λ u z. element-comma i st₁ v₁ c₁ q₁ k n u z ∙ element-at (c₁ .at) st v c q k n u z)
-        ∙ after-then (elementsIn k n t l y) (λ u z. elementIn k n u st (c .at) z) (λ u z. elements s k n u (c .at) z);
+          m .made k n t y
+          ∙ after-alike (elementsIn k n t l y) (λ u z. elements s k n u i z) (λ u z. afterBuilt (elementIn k n u st (c .at) z) (λ u z. elements s k n u (c .at) z))
+          (λ u z. element-comma i st₁ v₁ c₁ q₁ k n u z ∙ element-at (c₁ .at) st v c q k n u z)
+          ∙ after-then (elementsIn k n t l y) (λ u z. elementIn k n u st (c .at) z) (λ u z. elements s k n u (c .at) z);
     }
       where
         name : Lies s (c₁ .at) st (c .at) true

@@ -1,9 +1,9 @@
 -- Statements, unrolled where they stand in the text, do what their tree says: the body of a FOR, read again for each round, is its subtree each time.
 -- Assumes nothing.
-use mathlib.Core.Path.{_≡_, refl, sym, ap, subst, _∙_}
+use mathlib.Core.Path.{_≡_, refl, ap, _∙_}
 use mathlib.Core.Bool.{Bool, true, false}
 use mathlib.Core.List.{List}
-use Prim.Native.Nat.{ℕ, zero, suc, _+_, _<_, _≤_}
+use Prim.Native.Nat.{ℕ, zero, suc, _<_, _≤_}
 use native.Mathlib.Omega.{arith}
 use lib.ListN.{length}
 use lib.Dec.{eqb}
@@ -11,23 +11,21 @@ use lib.IntN.{ℤ, pos}
 use borrow.Author.Tests.{eqb-true, eq-eqb}
 use Rattle.basics.specs.Choice.{pick}
 use Rattle.words.specs.declared.Cursor.{Cursor}
-use Rattle.words.specs.declared.Taken.{Taken}
-use Rattle.words.specs.declared.Taken.the-variants.{Word, Refused}
+use Rattle.words.specs.declared.Taken.the-variants.{Word}
 use Rattle.words.specs.Words.{nextWord}
 use Rattle.integers.specs.Integers.{nextℤ, roundsOf}
-use Rattle.grammar.specs.Outcome.{Outcome, ok, no, Built, built, bad, Turn, more, last, onWord, andThen, builtAt, afterBuilt, andBuilt}
+use Rattle.grammar.specs.Outcome.{Outcome, ok, no, Built, built, bad, Turn, more, last, andThen, builtAt, afterBuilt, andBuilt}
 use Rattle.grammar.specs.Grammar.{closed}
 use Rattle.grammar.specs.Trees.{Tree, trees, eval, parsed}
-use Rattle.grammar.specs.Modules.{must, thenTurn, wordTurn, repeat, upTo, given, simple, statement, statementTurn as treeTurn, statements, looped, ranged, forFrom as treeForFrom, forOf as treeFor, sequence}
+use Rattle.grammar.specs.Modules.{must, thenTurn, upTo, given, simple, statement, statementTurn as treeTurn, statements, looped, ranged, forFrom as treeForFrom, forOf as treeFor, sequence}
 use Rattle.grammar.specs.Forms.{Statements, nothing, andStatement, loop, treeForms}
 use Rattle.judging.specs.Reading.{State, reads}
-use Rattle.readers.specs.Readers.{expressionOf}
 use Rattle.parts.specs.Parts.{usedAt, allows, oneMore}
 use Rattle.simple.specs.Statements.{simpleOf}
-use Rattle.unroll.specs.Loops.{withLoop, passedOf, Range, range, upperOf, lowerOf, rangeOf, headerOf, roundOf, turnsOf, closedBy, loopOf, forFrom, again, statementTurn, statementsWith, forOf, statementsOf}
+use Rattle.unroll.specs.Loops.{withLoop, passedOf, range, upperOf, lowerOf, rangeOf, headerOf, roundOf, turnsOf, loopOf, forFrom, again, statementTurn, statementsWith, forOf, statementsOf}
 use Rattle.unroll.proofs.Laws.{rest, statements-more, statements-last}
 use Rattle.treewise.specs.Unrolled.{counted, roundsIn, carried}
-use Rattle.treewise.proofs.Trace.{When, WhenT, when-pick, when-then, when-is, when-self, whenT-pick, whenT-then, when-repeat, when-word, whenT-word, when-closed, Stands, stands}
+use Rattle.treewise.proofs.Trace.{When, when-pick, when-then, when-is, when-self, whenT-pick, whenT-then, when-repeat, when-word, whenT-word, when-closed, Stands}
 use Rattle.treewise.proofs.Balance.{body-passed}
 use Rattle.treewise.proofs.Acts.{settled, read-is, simple-is}
 
@@ -137,9 +135,9 @@ module _ (s : List ℕ) (small : length s ≤ 65535) where
           when-repeat Runs Ran (treeTurn trees treeForms s d (treeFor trees treeForms s d)) (λ u i m.
           whenT-then Runs Ran (statement trees treeForms s d (treeFor trees treeForms s d) i tt) _ (λ w e h.
           let m₂ : Runs (andStatement u w) e =
-                m ∙ after-alike (carried s t u x) (λ v y. rest s t d i y) (λ v y. afterBuilt (carried s t w y) (λ v z. rest s t d e z)) (λ v y.
-                when-is (Step i) (statement trees treeForms s d (treeFor trees treeForms s d) i tt) w e h (statement-runs i) y)
-                ∙ after-then (carried s t u x) (λ v y. carried s t w y) (λ v z. rest s t d e z) in
+          m ∙ after-alike (carried s t u x) (λ v y. rest s t d i y) (λ v y. afterBuilt (carried s t w y) (λ v z. rest s t d e z)) (λ v y.
+          when-is (Step i) (statement trees treeForms s d (treeFor trees treeForms s d) i tt) w e h (statement-runs i) y)
+          ∙ after-then (carried s t u x) (λ v y. carried s t w y) (λ v z. rest s t d e z) in
           whenT-word s Runs Ran e _ (λ k st v c g.
           whenT-pick Runs Ran (eqb k 59) (more (andStatement u w) (c .at) tt) (last (ok (andStatement u w) e tt))
           (λ b. m₂ ∙ after-alike (carried s t (andStatement u w) x) (λ v y. rest s t d e y) (λ v y. rest s t d (c .at) y) (λ o y. over-semicolon e k st v c y g b))

@@ -4,19 +4,19 @@
 use mathlib.Core.Path.{_≡_, refl, sym, ap, subst, _∙_}
 use mathlib.Core.Bool.{Bool, true, false, _||_}
 use mathlib.Core.List.{List}
-use Prim.Native.Nat.{ℕ, zero, suc, _+_, _-_, _<_, _≤_}
+use Prim.Native.Nat.{ℕ, zero, suc, _+_, _-_, _<_}
 use native.Mathlib.Omega.{arith}
 use lib.ListN.{length}
-use lib.Dec.{eqb, ltb}
+use lib.Dec.{eqb}
 use borrow.Author.Tests.{eqb-true, lt-ltb, ne-eqb}
 use Rattle.basics.specs.Choice.{pick}
 use Rattle.words.specs.declared.Cursor.{Cursor}
 use Rattle.words.specs.declared.Taken.{Taken}
 use Rattle.words.specs.declared.Taken.the-variants.{Word, Refused}
 use Rattle.words.specs.Words.{nextWord}
-use Rattle.grammar.specs.Outcome.{Outcome, ok, no, Built, built, bad, Turn, more, last, onWord, andThen, builtAt}
+use Rattle.grammar.specs.Outcome.{Outcome, ok, no, Turn, more, last, onWord, andThen}
 use Rattle.grammar.specs.Grammar.{isSum, isProduct, indexSort, partSort, closed, turnWith, turnOn, onTurn, turn, chain, level, part, dotted, bracketed, pointed, named, muxThird, muxSecond, muxed, kept, regged, inverted, factor, term, expression, nested}
-use Rattle.grammar.specs.Trees.{Tree, literal, logic, plain, element, invert, apply, choose, hold, keep, trees, parsed}
+use Rattle.grammar.specs.Trees.{Tree, literal, logic, plain, hold, trees, parsed}
 use Rattle.grammar.specs.Modules.{thenTurn, wordTurn, repeat}
 use Rattle.unroll.specs.Loops.{passTurn}
 use Rattle.unroll.proofs.Laws.{passing, pass-more, pass-last}

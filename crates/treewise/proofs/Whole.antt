@@ -1,28 +1,25 @@
 -- Stages 3 and 4 along a text that is of the grammar are those of its tree.
 -- Assumes nothing.
-use mathlib.Core.Path.{_≡_, refl, sym, ap, subst, _∙_}
+use mathlib.Core.Path.{_≡_, refl, ap, _∙_}
 use mathlib.Core.Bool.{Bool, true, false}
 use mathlib.Core.List.{List}
-use Prim.Native.Nat.{ℕ, zero, suc, _+_, _<_, _≤_}
+use Prim.Native.Nat.{ℕ, _≤_}
 use native.Mathlib.Omega.{arith}
 use lib.ListN.{length, replicate}
 use lib.Dec.{eqb, leb}
-use lib.IntN.{ℤ, pos}
+use lib.IntN.{pos}
 use borrow.Author.Tests.{leb-true}
 use Rattle.basics.specs.Choice.{pick}
-use Rattle.words.specs.declared.Cursor.{Cursor}
-use Rattle.words.specs.declared.Taken.the-variants.{Word}
-use Rattle.words.specs.Words.{nextWord}
-use Rattle.grammar.specs.Outcome.{Outcome, ok, no, Built, built, bad, more, last, onWord, andThen, afterBuilt, levels}
+use Rattle.grammar.specs.Outcome.{Outcome, ok, no, Built, built, bad, andThen, afterBuilt, levels}
 use Rattle.grammar.specs.Trees.{trees}
 use Rattle.grammar.specs.Modules.{Module, must, sequence, declarations, begun, headed, sameName, ended, headless, wholeText}
 use Rattle.grammar.specs.Forms.{Statements, nothing, Declarations, treeForms, parsedText, checkedText}
 use Rattle.grammar.proofs.Alike.{Like, Places, checked-text}
 use Rattle.judging.specs.Reading.{State}
 use Rattle.declare.specs.Declarations.{declarationsOf}
-use Rattle.unroll.specs.Loops.{statementTurn, forOf, statementsOf}
-use Rattle.unroll.proofs.Laws.{rest, statements-last}
-use Rattle.texts.specs.Stages.{Front, stays, refused, fifth, unrolled, fourth, declared, third, checked, second, frontOf}
+use Rattle.unroll.specs.Loops.{statementTurn, statementsOf}
+use Rattle.unroll.proofs.Laws.{statements-last}
+use Rattle.texts.specs.Stages.{refused, unrolled, fourth, declared, third, checked, second, frontOf}
 use Rattle.treewise.specs.Unrolled.{carried}
 use Rattle.treewise.specs.Declared.{declaredIn}
 use Rattle.treewise.specs.Staged.{unrolledIn, fourthIn, declaredOn, thirdIn, parsedOn, frontIn}

@@ -1,12 +1,12 @@
 -- Stage 3 on the tree of a module: its declarations in the order of the text. Document 01, 'The language we take' and 'Refusal numbers', order (3): in
 -- one list the names, then the length, then the count of signals; READINGS 17, 18. The text is at hand for the spelling of names, and for the place of
 -- a length's first word. Assumes nothing.
-use Prim.Native.Nat.{ℕ, zero, suc, _+_, _-_}
-use mathlib.Core.Bool.{Bool, true, false, _||_}
+use Prim.Native.Nat.{ℕ, _+_, _-_}
+use mathlib.Core.Bool.{Bool, _||_}
 use mathlib.Core.List.{List, []}
 use lib.ListN.{getD, set}
-use lib.Dec.{eqb, leb}
-use lib.IntN.{ℤ, pos, negsuc}
+use lib.Dec.{leb}
+use lib.IntN.{ℤ, pos}
 use Rattle.basics.specs.Choice.{pick}
 use Rattle.words.specs.declared.Taken.{Taken}
 use Rattle.words.specs.declared.Taken.the-variants.{Word, Refused}

@@ -2,11 +2,10 @@
 -- numbers', order (4): the target before the expression, a name before its index; READINGS 12, 16, 19 to 23, 26. The text is at hand for the spelling
 -- of names alone. Assumes nothing.
 use Prim.Native.Nat.{ℕ, zero, suc, _+_, _-_}
-use mathlib.Core.Bool.{Bool, true, false}
 use mathlib.Core.List.{List, [], _∷_, _++_}
 use lib.ListN.{length, getD}
 use lib.Dec.{eqb}
-use lib.IntN.{ℤ, pos, negsuc}
+use lib.IntN.{ℤ}
 use Rattle.basics.specs.Choice.{pick}
 use Rattle.integers.specs.Integers.{nextℤ, roundsOf}
 use Rattle.grammar.specs.Outcome.{Built, built, bad, andBuilt}
