@@ -7,3 +7,4 @@ pub mod Spelt
 pub mod Listed
 pub mod Declares
 pub mod Whole
+pub mod Later

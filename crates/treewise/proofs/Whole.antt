@@ -20,9 +20,10 @@ use Rattle.declare.specs.Declarations.{declarationsOf}
 use Rattle.unroll.specs.Loops.{statementTurn, statementsOf}
 use Rattle.unroll.proofs.Laws.{statements-last}
 use Rattle.texts.specs.Stages.{refused, unrolled, fourth, declared, third, checked, second, frontOf}
+use Rattle.texts.specs.Meaning.{meaning, circuitIn}
 use Rattle.treewise.specs.Unrolled.{carried}
 use Rattle.treewise.specs.Declared.{declaredIn}
-use Rattle.treewise.specs.Staged.{unrolledIn, fourthIn, declaredOn, thirdIn, parsedOn, frontIn}
+use Rattle.treewise.specs.Staged.{unrolledIn, fourthIn, declaredOn, thirdIn, parsedOn, frontIn, meaningIn}
 use Rattle.treewise.proofs.Trace.{When, when-pick, when-then, when-is, when-self, when-word, when-closed, Stands}
 use Rattle.treewise.proofs.Loops.{sequence-is}
 use Rattle.treewise.proofs.Declares.{declarations-are}
@@ -122,3 +123,8 @@ front-is s = go (leb (length s) 32768) refl
     go : (b : Bool) → leb (length s) 32768 ≡ b → pick b (second s) (refused 1 0) ≡ pick b (parsedOn s (parsedText s)) (refused 1 0)
     go true q = let h : length s ≤ 32768 = leb-true (length s) 32768 q in second-is s (omega arith)
     go false q = refl
+
+-- and so is its meaning
+pub meaning-is : (s : List ℕ) → meaning s ≡ meaningIn s
+unfolding meaning meaningIn
+meaning-is s = ap circuitIn (front-is s)

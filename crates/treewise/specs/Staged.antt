@@ -10,6 +10,7 @@ use Rattle.grammar.specs.Modules.{Module}
 use Rattle.grammar.specs.Forms.{Statements, Declarations, parsedText}
 use Rattle.judging.specs.Reading.{State}
 use Rattle.texts.specs.Stages.{Front, refused, fifth}
+use Rattle.texts.specs.Meaning.{Meaning, circuitIn}
 use Rattle.treewise.specs.Unrolled.{carried}
 use Rattle.treewise.specs.Declared.{declaredIn}
 
@@ -39,3 +40,7 @@ parsedOn s (no n p u) = refused n p
 -- all stages up to 5: what a text comes to is a function of its tree
 unfoldable pub frontIn : List ℕ → Front
 frontIn s = pick (leb (length s) 32768) (parsedOn s (parsedText s)) (refused 1 0)
+
+-- the circuit that a text describes, by its tree
+unfoldable pub meaningIn : List ℕ → Meaning
+meaningIn s = circuitIn (frontIn s)
