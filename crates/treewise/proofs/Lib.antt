@@ -8,3 +8,4 @@ pub mod Listed
 pub mod Declares
 pub mod Whole
 pub mod Later
+pub mod Examples
