@@ -6,7 +6,8 @@ use crate::device::{self, cell_of, judge_map, map_of, model, CELLS, COLUMNS, FUS
 use crate::file;
 use crate::grammar::Class;
 use crate::make::files::{faulty_files, summed};
-use crate::make::fixed::{cases, wide, Known, EXAMPLE, EXAMPLE_FILE};
+use crate::make::fixed::{cases, wide, Case, Known, EXAMPLE, EXAMPLE_FILE};
+use crate::make::maps::{line_ends, model_record, write_record};
 use crate::make::{make, refusal_number, texts, Chance};
 use crate::simulation::Simulation;
 use crate::sums::{primes, product_of, verdicts, Verdict};
@@ -34,8 +35,43 @@ fn the_example_is_244_bytes_as_given() {
 
 #[test]
 fn every_known_case_gives_its_answer() {
+    give_their_answers(cases());
+}
+
+#[test]
+fn a_cr_counts_unless_an_lf_follows_it_directly() {
+    let all = line_ends();
+    for verb in ["model", "write"] {
+        assert!(all.iter().any(|case| case.record.call == verb));
+    }
+    give_their_answers(all);
+}
+
+#[test]
+fn made_records_have_every_end_of_line() {
+    let mut chance = Chance::new(17);
+    let inputs: Vec<String> = (0..600).map(|_| said(model_record(&mut chance).payload)).collect();
+    let some = |has: &dyn Fn(&str) -> bool| inputs.iter().any(|input| has(input));
+    let map_line = |input: &str| input.split_inclusive('\n').next().unwrap_or("").to_string();
+    let calls = |input: &str| input[map_line(input).len()..].to_string();
+    let within = |line: &str| line.trim_end_matches(['\r', '\n']).contains('\r');
+    assert!(some(&|i| map_line(i).ends_with("1\r\n") && calls(i).ends_with("0\n")), "on the map's line alone");
+    assert!(some(&|i| calls(i).contains("0\r\n") && calls(i).contains("0\n")), "on some lines");
+    assert!(some(&|i| i.ends_with("0\r") || i.ends_with("1\r")), "a CR alone at the end");
+    assert!(some(&|i| i.ends_with("\n\r")), "a CR alone behind the last LF");
+    assert!(some(&|i| calls(i).lines().any(within)), "a CR inside a line");
+    assert!(some(&|i| map_line(i).ends_with("\r\r\n")), "CR CR LF behind the map");
+    assert!(some(&|i| calls(i).contains("\r\r\n")), "CR CR LF behind a call");
+    let digits: Vec<Vec<u8>> = (0..600).map(|_| write_record(&mut chance).payload).collect();
+    for end in ["0\n", "0\r\n", "0\r", "0\r\r\n", "0\n\r", "0\r\n\r\n"] {
+        assert!(digits.iter().any(|d| d.len() > FUSES && d.ends_with(end.as_bytes())), "{end:?}");
+    }
+    assert!(digits.iter().any(|d| d.len() > FUSES && d[..FUSES].contains(&b'\r')));
+}
+
+fn give_their_answers(cases: Vec<Case>) {
     let mut wrong = Vec::new();
-    for case in cases() {
+    for case in cases {
         let answer = case.record.answer().unwrap();
         let right = match &case.known {
             Known::Anything => true,

@@ -29,7 +29,7 @@ fn case(number: u32, marked: &str) -> Case {
     Case { record: Record::new("compile", text), known }
 }
 
-fn exactly(call: &str, text: &str, answer: &str) -> Case {
+pub fn exactly(call: &str, text: &str, answer: &str) -> Case {
     Case { record: Record::new(call, text), known: Known::Exactly(answer.to_string()) }
 }
 

@@ -4,7 +4,7 @@
 mod batches;
 pub mod files;
 pub mod fixed;
-mod maps;
+pub mod maps;
 pub mod texts;
 
 use crate::vectors::Record;
