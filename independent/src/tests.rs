@@ -8,10 +8,12 @@ use crate::grammar::Class;
 use crate::make::files::{faulty_files, summed};
 use crate::make::fixed::{cases, wide, Case, Known, EXAMPLE, EXAMPLE_FILE};
 use crate::make::maps::{line_ends, model_record, write_record};
-use crate::make::{make, refusal_number, texts, Chance};
+use crate::make::texts::question;
+use crate::make::{census, make, readings, refusal_number, texts, Chance};
 use crate::simulation::Simulation;
 use crate::sums::{primes, product_of, verdicts, Verdict};
 use crate::vectors::{self, Record};
+use std::collections::HashMap;
 
 fn said(bytes: Vec<u8>) -> String {
     String::from_utf8_lossy(&bytes).into_owned()
@@ -470,20 +472,89 @@ fn makers_repeat_themselves_and_reach_every_number() {
     for kind in ["text", "device", "all", "tables"] {
         assert_eq!(make(kind, 4, 60), make(kind, 4, 60));
     }
-    let reached = |kind: &str| {
-        let records = vectors::records_of(&make(kind, 21, 1_500).unwrap()).unwrap();
-        let mut numbers = std::collections::BTreeSet::new();
-        for record in records {
-            for line in record.answer().unwrap().split_inclusive(|b| *b == b'\n') {
-                numbers.extend(refusal_number(line));
+    for (kind, seed, count) in [("all", 1, 10_000), ("text", 1, 3_500), ("device", 1, 3_000)] {
+        let records = vectors::records_of(&make(kind, seed, count).unwrap()).unwrap();
+        assert_eq!(records.len(), count);
+        let census = census(&records).unwrap();
+        let mut wanted = Vec::new();
+        if kind != "device" {
+            for verb in ["compile", "fit", "ask"] {
+                wanted.extend((1..=12).map(|n| format!("{verb} {n} ")));
+                wanted.push(format!("{verb} accepted "));
+            }
+            wanted.push("ask 14 ".to_string());
+        }
+        if kind != "text" {
+            wanted.extend([20, 21, 22, 23, 24].map(|n| format!("read {n} ")));
+            wanted.extend([30, 31, 32].map(|n| format!("model {n} ")));
+            wanted.extend(["read accepted ", "write accepted ", "write 31 ", "model accepted "].map(str::to_string));
+        }
+        for start in wanted {
+            assert!(census.lines().any(|line| line.starts_with(&start)), "{kind}: {start}\n{census}");
+        }
+    }
+}
+
+#[test]
+fn every_text_is_put_to_every_verb() {
+    let records = vectors::records_of(&make("text", 1, 3_500).unwrap()).unwrap();
+    let mut calls: HashMap<&[u8], Vec<&str>> = HashMap::new();
+    for record in &records {
+        calls.entry(&record.payload).or_default().push(&record.call);
+    }
+    let last = &records[records.len() - 1].payload;
+    for (text, calls) in calls.iter().filter(|(text, _)| *text != last) {
+        for verb in ["compile", "fit", "ask"] {
+            assert!(calls.iter().any(|call| call.starts_with(verb)), "{verb} {}", String::from_utf8_lossy(text));
+        }
+    }
+    // A refused text is refused alike by all of them.
+    for case in cases() {
+        if let Known::Refused { number, place } = case.known {
+            for call in ["compile", "fit", "ask 23 0", "ask 99 99999999999999999999"] {
+                let answer = Record::new(call, case.record.payload.clone()).answer().unwrap();
+                assert_eq!(said(answer), refused(number, place));
             }
         }
-        numbers
-    };
-    let texts = reached("text");
-    assert!((1..=12).chain([14]).all(|n| texts.contains(&n)), "{texts:?}");
-    let devices = reached("device");
-    assert!([20, 21, 22, 23, 24, 30, 31, 32].iter().all(|n| devices.contains(n)), "{devices:?}");
+    }
+}
+
+#[test]
+fn questions_are_about_all_sorts_of_pins_and_numbers() {
+    let design = design_of(wide(3, 19, "a*b + ~a*c").as_bytes()).unwrap();
+    let mut chance = Chance::new(1);
+    let asked: Vec<(String, String)> = (0..3_000)
+        .map(|_| {
+            let call = question(&mut chance, Some(&design));
+            let (pin, number) = call.strip_prefix("ask ").unwrap().split_once(' ').unwrap();
+            (pin.to_string(), number.to_string())
+        })
+        .collect();
+    for pin in ["19", "0", "1", "12", "24", "25", "18446744073709551635"] {
+        assert!(asked.iter().any(|(p, _)| p == pin), "pin {pin}");
+    }
+    for number in 0..=30 {
+        assert!(asked.iter().any(|(p, n)| p == "19" && *n == number.to_string()), "number {number}");
+    }
+    assert!(asked.iter().any(|(p, n)| p == "19" && n.len() > 20 && n.parse::<u64>().is_err()));
+    assert!(asked.iter().any(|(p, n)| p == "19" && n.starts_with("184467440737095516")));
+    assert!(question(&mut chance, None).starts_with("ask "));
+}
+
+#[test]
+fn every_reading_has_a_case_that_comes_first() {
+    let texts = readings::texts();
+    let devices = readings::devices();
+    for point in (1..=46).chain([55]) {
+        assert!(texts.iter().chain(&devices).any(|(of, _)| *of == point), "point {point}");
+    }
+    for (kind, points) in [("text", &texts), ("device", &devices)] {
+        let first = vectors::records_of(&make(kind, 1, 2 + 4 * points.len()).unwrap()).unwrap();
+        for (point, case) in points {
+            assert!(first.iter().any(|r| r.bytes() == case.record.bytes()), "point {point}: {}", said(case.record.bytes()));
+        }
+    }
+    give_their_answers(texts.into_iter().chain(devices).map(|(_, case)| case).collect());
 }
 
 #[test]

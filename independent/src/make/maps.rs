@@ -368,6 +368,5 @@ pub fn fixed() -> Vec<Record> {
         }
     }
     records.push(Record::new("model", every));
-    records.extend(line_ends().into_iter().map(|case| case.record));
     records
 }
