@@ -91,7 +91,7 @@ fn give_their_answers(cases: Vec<Case>) {
 }
 
 /// What y shows, from power-up, at each of some clocks with all inputs at the given values.
-fn shows(text: &str, inputs: &[(usize, bool)], clocks: usize) -> Vec<bool> {
+pub fn shows(text: &str, inputs: &[(usize, bool)], clocks: usize) -> Vec<bool> {
     let design = design_of(text.as_bytes()).unwrap();
     let map = map_of_cells(&design.cells);
     let pin = design.outputs[0].pin;
