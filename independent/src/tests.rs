@@ -574,3 +574,16 @@ fn chains_of_names_are_valued_once_each() {
     assert!(circuit_of(text.as_bytes()).is_ok());
     assert_eq!(said(vectors::fit(text.as_bytes())), "23 C H 1 1\n");
 }
+
+#[test]
+fn bench_prints_one_number() {
+    let file = concat!(env!("CARGO_MANIFEST_DIR"), "/README.md");
+    for verb in ["compile", "read"] {
+        let (printed, well) = crate::run(&["bench", verb, file, "3"]).unwrap();
+        let line = said(printed);
+        assert!(well && line.ends_with('\n') && line.trim_end().parse::<u64>().is_ok(), "{line}");
+    }
+    for wrong in [["bench", "compile", file, "0"], ["bench", "fit", file, "3"], ["bench", "read", "nowhere", "3"]] {
+        assert!(crate::run(&wrong).is_err());
+    }
+}
