@@ -6,7 +6,7 @@ use crate::device::{self, cell_of, judge_map, map_of, model, CELLS, COLUMNS, FUS
 use crate::file;
 use crate::grammar::Class;
 use crate::make::files::{faulty_files, summed};
-use crate::make::fixed::{cases, wide, Case, Known, EXAMPLE, EXAMPLE_FILE};
+use crate::make::fixed::{cases, wide, Case, Known, ADDER, BARREL, COUNTER, EXAMPLE, EXAMPLE_FILE};
 use crate::make::maps::{line_ends, model_record, write_record};
 use crate::make::texts::question;
 use crate::make::{census, make, readings, refusal_number, texts, Chance};
@@ -119,6 +119,44 @@ fn marked_examples_of_values() {
     assert_eq!(shows(EXAMPLE, &[(2, true)], 4), [false, true, false, true]);
     assert_eq!(shows(&wide(2, 23, "~REG(b, a)"), &[(2, true), (3, false)], 3), [true, true, true]);
     assert_eq!(shows(&wide(2, 23, "~REG(b, a)"), &[(2, true), (3, true)], 3), [true, false, false]);
+}
+
+/// The number that some pins make, the first its lowest bit.
+fn number_on(values: &[bool; PINS], pins: &[usize]) -> usize {
+    pins.iter().enumerate().map(|(i, pin)| usize::from(values[pin - 1]) << i).sum()
+}
+
+#[test]
+fn the_examples_do_what_they_say() {
+    let map = |text: &str| file::read(&vectors::compile(text.as_bytes())).unwrap();
+    let give = |pins: &[usize], number: usize| {
+        let mut values = [0; PINS];
+        for (i, pin) in pins.iter().enumerate() {
+            values[pin - 1] = (number >> i & 1) as u8;
+        }
+        values
+    };
+    let adder = map(ADDER);
+    for given in 0..32 {
+        let answer = model(&adder, &[0; 10], &give(&[2, 3, 4, 5, 6], given)).unwrap();
+        assert_eq!(number_on(&answer.values, &[23, 19, 22]), given % 4 + given / 4 % 4 + given / 16);
+    }
+    let barrel = map(BARREL);
+    for given in 0..64 {
+        let answer = model(&barrel, &[0; 10], &give(&[2, 3, 4, 5, 6, 7], given)).unwrap();
+        let (turns, data) = (given % 4, given / 4);
+        assert_eq!(number_on(&answer.values, &[22, 21, 20, 19]), (data >> turns | data << (4 - turns)) % 16);
+    }
+    let counter = map(COUNTER);
+    let mut bits = [0; 10];
+    let mut count = 0;
+    for clock in 0..600 {
+        let on = clock % 7 != 3;
+        let answer = model(&counter, &bits, &give(&[2], usize::from(on))).unwrap();
+        assert_eq!(number_on(&answer.values, &[23, 22, 21, 20, 19, 18, 17, 16]), count % 256);
+        count += usize::from(on);
+        bits = answer.registers.map(u8::from);
+    }
 }
 
 fn primes_of(pins: usize, f: impl Fn(usize) -> bool) -> usize {

@@ -87,9 +87,9 @@ L0088 11010111111111111111111111111111111111111111*\r\n\
 L0132 11101011111111111111111111111111111111111111*\r\n\
 L5808 10111111111111111111*\r\nC1255*\r\n\u{3}2C8F";
 
-const ADDER: &str = include_str!("../../../examples/adder.lola");
-const BARREL: &str = include_str!("../../../examples/barrel.lola");
-const COUNTER: &str = include_str!("../../../examples/counter.lola");
+pub const ADDER: &str = include_str!("../../../examples/adder.lola");
+pub const BARREL: &str = include_str!("../../../examples/barrel.lola");
+pub const COUNTER: &str = include_str!("../../../examples/counter.lola");
 const SHEET: &str = include_str!("../../../examples/sheet.lola");
 
 pub fn cases() -> Vec<Case> {
