@@ -3,6 +3,7 @@ use mathlib.Core.Path.{_≡_, refl, sym, ap, ap₂, _∙_}
 use mathlib.Core.Bool.{Bool, _&&_}
 use mathlib.Core.List.{List}
 use Prim.Native.Nat.{ℕ, _≤_}
+use lib.Dec.{leb}
 use lib.ListN.{length}
 use borrow.Author.Tests.{le-leb}
 use Rattle.basics.specs.Choice.{pick}
@@ -20,8 +21,12 @@ use Rattle.compilecall.specs.Compiling.{compiledAs, Compiles}
 use Rattle.fitcall.specs.declared.Fitted.{Fitted}
 use Rattle.fitcall.specs.declared.Fitted.the-variants.{Lines, Refused as Misfits}
 use Rattle.fitcall.specs.Fitting.{lined, fittedOf, fittedAs, Fits}
+use Rattle.question.specs.declared.Asked.{Asked}
+use Rattle.question.specs.declared.Asked.the-variants.{Refused as Refuses}
+use Rattle.askcall.specs.declared.Graded.{Graded}
+use Rattle.askcall.specs.Asking.{gradeOf, questioned, gradedOf, Asks}
 use Rattle.verbs.proofs.Files.{bytes-printed, refusal-printed}
-use Rattle.textverbs.specs.Answers.{compileAnswer, fitAnswer}
+use Rattle.textverbs.specs.Answers.{compileAnswer, fitAnswer, gradeLine, askAnswer}
 
 -- ---- compile
 
@@ -88,3 +93,15 @@ module _ (s out room : List ℕ) (a : Fitted) (after y : List ℕ) (h : 7154 ≤
   pub fit-refused : (number place : ℕ) (last : List ℕ) (n : ℕ) → a ≡ Misfits number place → Wrote after 0 (refusalLine number place) last n → Wrote out 0 (fitAnswer s) last n
   unfolding fitAnswer
   fit-refused number place last n e w = refusal-printed (lined (wholeOf s)) out after number place last n (sym (ap ofFitted e) ∙ told-lines) left-lines w
+
+-- ---- ask
+
+ask-lent : (s : List ℕ) (pin product room : ℕ) → 65536 ≤ room → gradedOf s pin product room ≡ questioned pin product (wholeOf s)
+unfolding gradedOf
+ask-lent s pin product room k = ap (λ (b : Bool). pick b (questioned pin product (wholeOf s)) (Refuses 13 0)) (le-leb _ _ k)
+
+pub ask-printed : (s : List ℕ) (pin product : ℕ) (room : List ℕ) (a b : Graded) (y : List ℕ) → 65536 ≤ length room → Asks s pin product room a y → a ≡ b
+    → gradeLine (gradeOf b) ≡ askAnswer s pin product
+unfolding askAnswer
+ask-printed s pin product room a b y k d e =
+    ap gradeLine (ap gradeOf (sym e) ∙ d .answers ∙ ask-lent s pin product (length room) k)

@@ -1,7 +1,8 @@
 // Answers records, so that thousands of calls are one run. A record on standard input is a line with a verb, its numbers and last a length,
 // then as many bytes, then LF; the answer is a line with # and the record's index, and a length, then as many bytes, then LF. The bytes are
-// what the verb's own program prints for those of the record: `compile` as lola_compile, `fit` as lola_fit, `read` as fuse_read, `write` as
-// fuse_write, `model` as gal_model. Any other verb is answered with no byte, and so is a `model` of more than 65,537 bytes.
+// what the verb's own program prints for those of the record: `compile` as lola_compile, `fit` as lola_fit, `ask PIN NUMBER` as lola_ask,
+// `read` as fuse_read, `write` as fuse_write, `model` as gal_model. Any other verb is answered with no byte, and so is a `model` of more than
+// 65,537 bytes.
 ghost use mathlib.Core.Path.{_≡_};
 ghost use Prim.Native.Nat.{ℕ, _≤_};
 ghost use lib.ListN.{length};
@@ -15,7 +16,7 @@ struct Head {
     ended: bool,
 }
 
-// A number with a digit more. From 10 ^ 18 on it stays as it is.
+// A number with a digit more. From 10 ^ 18 on it stays as it is: no length, OUT pin or product's number comes near that.
 fn with_digit(n: usize, b: u8) -> usize {
     if n < 1000000000000000000 {
         if 48 <= b {
@@ -168,6 +169,9 @@ fn device_answer(head: Head, n: usize, input: &mut [u8], out: &mut [u8]) -> usiz
 }
 
 fn is_of_text(verb: u8) -> bool {
+    if verb == 97 {
+        return true;
+    }
     if verb == 99 {
         return true;
     }
@@ -180,6 +184,9 @@ fn text_answer(head: Head, text: &[u8], out: &mut [u8], room: &mut [u8]) -> usiz
     ensures { λ r. ⌜ r ≤ length (now (out .exit)) ⌝ }
 {
     let verb = head.verb;
+    if verb == 97 {
+        return textverbs::ask_answer(text, head.first, head.second, out, room);
+    }
     if verb == 99 {
         return textverbs::compile_answer(text, out, room);
     }
