@@ -67,33 +67,36 @@ abbrev told : Written → ℕ
 told (File len) = 0
 told (WRefused number place) = 1
 
+-- bytes that a call gave are printed as they stand
+pub bytes-printed : (o : Outcome) (before after : List ℕ) (len : ℕ) → File len ≡ writtenOf o → after ≡ left o before → length after ≡ length before
+    → Wrote before 0 (printed (λ bytes. bytes) o) after len
+bytes-printed (gives bytes) before after len p q z =
+    let l : len ≡ length bytes = ap sizeOf p in
+    let s : length (bytes ++ drop (length bytes) before) ≡ length bytes + length (drop (length bytes) before) = length-append bytes (drop (length bytes) before) in
+    let t : length (bytes ++ drop (length bytes) before) ≡ length before = sym (ap length q) ∙ z in
+    record { room = omega arith; holds = q ∙ sym (put-front before bytes); ends = omega arith }
+bytes-printed (refuses number place) before after len p q z = let k : _≡_ {A = ℕ} 0 1 = ap told p in absurd (omega arith)
+
+-- a refusal that a call answered is printed as its line
+pub refusal-printed : (o : Outcome) (before after : List ℕ) (number place : ℕ) (last : List ℕ) (n : ℕ) → WRefused number place ≡ writtenOf o → after ≡ left o before
+    → Wrote after 0 (refusalLine number place) last n → Wrote before 0 (printed (λ bytes. bytes) o) last n
+refusal-printed (gives bytes) before after number place last n p q w = let k : _≡_ {A = ℕ} 1 0 = ap told p in absurd (omega arith)
+refusal-printed (refuses a b) before after number place last n p q w =
+    subst (λ (l : List ℕ). Wrote before 0 l last n) (λ i. refusalLine (numberOf (p i)) (placeOf (p i)))
+    (subst (λ (l : List ℕ). Wrote l 0 (refusalLine number place) last n) q w)
+
 module _ (map before after : List ℕ) (w : Written) (room : 7154 ≤ length before) (d : Writes map before w after) where
   same : writeOf map (length before) ≡ writeOf map 7154
   same = room-enough map (length before) room
 
   pub file-given : (len : ℕ) → w ≡ File len → length after ≡ length before → Wrote before 0 (fileAnswer map) after len
   unfolding fileAnswer
-  file-given len e z =
-      go (writeOf map 7154) (sym e ∙ d .answers ∙ ap writtenOf same) (d .leaves ∙ ap (λ (o : Outcome). left o before) same)
-    where
-      go : (o : Outcome) → File len ≡ writtenOf o → after ≡ left o before → Wrote before 0 (printed (λ file. file) o) after len
-      go (gives file) p q =
-          let l : len ≡ length file = ap sizeOf p in
-          let s : length (file ++ drop (length file) before) ≡ length file + length (drop (length file) before) = length-append file (drop (length file) before) in
-          let t : length (file ++ drop (length file) before) ≡ length before = sym (ap length q) ∙ z in
-          record { room = omega arith; holds = q ∙ sym (put-front before file); ends = omega arith }
-      go (refuses number place) p q = let k : _≡_ {A = ℕ} 0 1 = ap told p in absurd (omega arith)
+  file-given len e z = bytes-printed (writeOf map 7154) before after len (sym e ∙ d .answers ∙ ap writtenOf same) (d .leaves ∙ ap (λ (o : Outcome). left o before) same) z
 
   pub file-refused : (number place : ℕ) (last : List ℕ) (n : ℕ) → w ≡ WRefused number place → Wrote after 0 (refusalLine number place) last n → Wrote before 0 (fileAnswer map) last n
   unfolding fileAnswer
   file-refused number place last n e w =
-      go (writeOf map 7154) (sym e ∙ d .answers ∙ ap writtenOf same) (d .leaves ∙ ap (λ (o : Outcome). left o before) same)
-    where
-      go : (o : Outcome) → WRefused number place ≡ writtenOf o → after ≡ left o before → Wrote before 0 (printed (λ file. file) o) last n
-      go (gives file) p q = let k : _≡_ {A = ℕ} 1 0 = ap told p in absurd (omega arith)
-      go (refuses a b) p q =
-          subst (λ (l : List ℕ). Wrote before 0 l last n) (λ i. refusalLine (numberOf (p i)) (placeOf (p i)))
-          (subst (λ (l : List ℕ). Wrote l 0 (refusalLine number place) last n) q w)
+      refusal-printed (writeOf map 7154) before after number place last n (sym e ∙ d .answers ∙ ap writtenOf same) (d .leaves ∙ ap (λ (o : Outcome). left o before) same) w
 
 pub write-long : (text : List ℕ) (n : ℕ) → n ≡ lineLength text → n ≤ length text → 5892 < n → refusalLine 31 0 ≡ writeAnswer text
 unfolding writeAnswer fileAnswer writeOf isMap

@@ -1,7 +1,4 @@
-use native.Mathlib.Omega.{arith}
-use mathlib.Core.Path.{_≡_, refl, sym, ap, _∙_}
-use lib.ListN.{length, take, drop}
-use Prim.Native.Nat.{ℕ, _+_, _-_, _≤_}
+use mathlib.Core.Path.{sym}
 use lib.Seq.{length-take-le}
 use borrow.Author.Needs.{needs}
 use Rattle.vectors.proofs.answer_to.Statement.{statement}
@@ -12,35 +9,39 @@ use Rattle.vectors.proofs.answer.Reads as answer-reads
 use Rattle.vectors.proofs.payload.Reads as payload-reads
 use Rattle.vectors.proofs.put_out.Reads as put-out-reads
 
--- src/main.rt:150:9
+-- src/main.rt:215:9
 payload-requires : tie.Need-payload-requires
 payload-requires c κs = search needs
 
--- src/main.rt:151:9
+-- src/main.rt:216:9
 answer-requires : tie.Need-answer-requires
 answer-requires c κs = search needs
 
--- src/main.rt:152:20
+-- src/main.rt:217:20
 slice-reshare-prefix-put-out : tie.Need-slice-reshare-prefix-put-out
 slice-reshare-prefix-put-out c = search needs
 
--- src/main.rt:152:20
+-- src/main.rt:217:20
 slice-aggregate-put-out : tie.Need-slice-aggregate-put-out
-slice-aggregate-put-out c = sym (length-take-le (c .before .before .before .before .before .answer .result) (c .before .before .before .before .before .answer .last .1 .1 .1 .0) (c .before .before .before .before .before .answer .ensures))
+slice-aggregate-put-out c = sym (length-take-le (c .before .before .before .before .before .before .before .answer .result) (c .before .before .before .before .before .before .before .answer .last .1 .1 .1 .0) (c .before .before .before .before .before .before .before .answer .ensures))
 
--- src/main.rt:152:5
+-- src/main.rt:217:5
 put-out-requires : tie.Need-put-out-requires
 put-out-requires c κs = search needs
 
--- src/main.rt:147:1
+-- src/main.rt:212:1
 same-length : tie.Need-same-length
 same-length c = search needs
 
--- src/main.rt:147:1
+-- src/main.rt:212:1
 same-length-2 : tie.Need-same-length-2
 same-length-2 c = search needs
 
--- src/main.rt:147:1
+-- src/main.rt:212:1
+same-length-3 : tie.Need-same-length-3
+same-length-3 c = search needs
+
+-- src/main.rt:212:1
 returns : tie.Need-returns
 returns c = search needs
 
@@ -55,4 +56,5 @@ answer-to-spec =
     put-out-requires
     same-length
     same-length-2
+    same-length-3
     returns)

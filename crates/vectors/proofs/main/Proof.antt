@@ -17,7 +17,7 @@ slice-aggregate-run-3 : tie.Need-slice-aggregate-run-3
 slice-aggregate-run-3 c = search needs
 
 run-requires : tie.Need-run-requires
-run-requires c κs = (length-replicate {A = ℕ} 65537 0, length-replicate {A = ℕ} 327685 0)
+run-requires c κs = (length-replicate {A = ℕ} 65537 0, length-replicate {A = ℕ} 327685 0, length-replicate {A = ℕ} 65536 0)
 
 returns : tie.Need-returns
 returns c = search needs
