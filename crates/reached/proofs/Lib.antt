@@ -1,2 +1,5 @@
 pub mod Places
 pub mod Holds
+pub mod Rounds
+pub mod Numbers
+pub mod Known
