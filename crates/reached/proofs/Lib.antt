@@ -3,3 +3,5 @@ pub mod Holds
 pub mod Rounds
 pub mod Numbers
 pub mod Known
+pub mod Both
+pub mod Notes
