@@ -9,7 +9,7 @@ use native.Mathlib.Omega.{arith}
 use lib.ListN.{length}
 use lib.Dec.{eqb, leb, ltb}
 use lib.IntN.{ℤ, pos, negsuc}
-use borrow.Author.Tests.{eqb-true, eqb-false, ltb-true, le-leb}
+use borrow.Author.Tests.{eqb-true, eqb-false, ne-eqb, ltb-true, le-leb}
 use Rattle.basics.specs.Choice.{pick}
 use Rattle.integers.specs.Integers.{Answer, held, broken, within, combined}
 use Rattle.names.specs.Names.{Spelling, Seen, known, unknown, Sought, found, missing, find, Entry, entry, entries, shown, same, spelling, numberOf, lookedUp}
@@ -102,11 +102,16 @@ fair-logic : (o p v : ℕ) → FairVerdict (logicOf o p v)
 unfolding logicOf
 fair-logic o p v = judge (eqb v 0) (markOf o 0 p) (markOf o 1 p) (λ e. fair-mark o 0 p (omega arith)) (λ e. fair-mark o 1 p (omega arith))
 
-width-one : (n : ℕ) → eqb n 0 ≡ true → widthOf n ≡ 1
+pub width-one : (n : ℕ) → eqb n 0 ≡ true → widthOf n ≡ 1
 width-one n e = simp e
 
-width-all : (n : ℕ) → eqb n 0 ≡ false → widthOf n ≡ n
+pub width-all : (n : ℕ) → eqb n 0 ≡ false → widthOf n ≡ n
 width-all n e = simp e
+
+-- a name has an element at least
+pub width-some : (n : ℕ) → 1 ≤ widthOf n
+width-some zero = omega arith
+width-some (suc n) = let e : widthOf (suc n) ≡ suc n = width-all (suc n) (ne-eqb (suc n) 0 (λ q. omega arith)) in omega arith
 
 plain-on : (o p : ℕ) (m : Meaning) → FairMeaning m → FairVerdict (plainOn o p m)
 plain-on o p nothing h = tt

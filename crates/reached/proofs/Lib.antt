@@ -5,3 +5,4 @@ pub mod Numbers
 pub mod Known
 pub mod Both
 pub mod Notes
+pub mod Declared
