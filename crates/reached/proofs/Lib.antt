@@ -6,3 +6,4 @@ pub mod Known
 pub mod Both
 pub mod Notes
 pub mod Declared
+pub mod Shared
