@@ -7,3 +7,4 @@ pub mod Both
 pub mod Notes
 pub mod Declared
 pub mod Shared
+pub mod Acts

@@ -35,7 +35,7 @@ down-down : (m k : ℕ) → roundsOf (negsuc m) (negsuc k) ≡ suc m + 1 - suc k
 unfolding roundsOf
 down-down m k = up-sub (suc m) (suc k)
 
-next-up : (m : ℕ) → m < 65535 → nextℤ (pos m) ≡ pos m +ℤ pos 1
+pub next-up : (m : ℕ) → m < 65535 → nextℤ (pos m) ≡ pos m +ℤ pos 1
 next-up m h = rw (lt-ltb m 65535 h) refl
 
 next-down : (m : ℕ) → nextℤ (negsuc m) ≡ negsuc m +ℤ pos 1
