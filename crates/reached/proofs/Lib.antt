@@ -8,3 +8,4 @@ pub mod Notes
 pub mod Declared
 pub mod Shared
 pub mod Acts
+pub mod Unrolled

@@ -18,13 +18,15 @@ use Rattle.grammar.specs.Forms.{checkedText}
 use Rattle.judging.specs.Judging.{Meaning, valued, signal, nothing, meaningOf}
 use Rattle.judging.specs.Reading.{State}
 use Rattle.readers.specs.Readers.{expressionOf}
-use Rattle.trees.specs.Layout.{classAt, placeAt, startAt, sizeAt, timesAt}
+use Rattle.trees.specs.Layout.{Elements, classAt, placeAt, startAt, sizeAt, timesAt}
+use Rattle.trees.specs.Layout.{elementsOf as elementsIn}
 use Rattle.parts.specs.Parts.{usedAt, elementsAt, constantsAt, allows, oneMore, raised, positionedIn, miscountedFrom}
 use Rattle.simple.specs.Statements.{Target, element, missed, targetOf, upward, gaveOf, oneOf}
 use Rattle.lists.specs.Lists.{isKnown, freshOf, typeOf}
 use Rattle.declare.specs.Declarations.{widthOf}
 use Rattle.unroll.specs.Loops.{Range, headerOf, passedOf}
-use Rattle.texts.specs.Stages.{Front, stays, refused, unrolled}
+use Rattle.circuit.specs.StageFive.{Verdict}
+use Rattle.texts.specs.Stages.{Front, stays, refused, unless}
 
 -- the names with one more in front
 abbrev pub added : List ℕ → ℕ → ℕ → ℕ → ℕ → ℕ → List ℕ
@@ -200,24 +202,32 @@ forOf s (suc d) t p at x = forFrom s t (λ u q y. statementsWith s u d (forOf s 
 abbrev pub statementsOf : List ℕ → ℕ → List ℕ → ℕ → State → Outcome State ℤ
 statementsOf s d t at x = statementsWith s t d (forOf s d t) at x
 
--- ---- a text
+-- ---- a text, with a verdict of stage 5 over its elements
 
-unfoldable pub fourth : List ℕ → ℕ → List ℕ → State → Front
-fourth s at t x = unrolled (statementsOf s levels t at x)
+module _ (five : Elements → Verdict) where
+  unfoldable pub fifth : List ℕ → Front
+  fifth parts = unless (five (elementsIn parts)) parts
 
-abbrev pub declared : List ℕ → ℕ → Outcome State (List ℕ) → Front
-declared s b (ok t at x) = fourth s b t x
-declared s b (no n p x) = refused n p
+  abbrev pub unrolled : Outcome State ℤ → Front
+  unrolled (ok v at x) = fifth (x .0)
+  unrolled (no n p x) = refused n p
 
-unfoldable pub third : List ℕ → ℕ → ℕ → Front
-third s at b = declared s b (declarationsOf s at (replicate 2588 0, 0))
+  unfoldable pub fourth : List ℕ → ℕ → List ℕ → State → Front
+  fourth s at t x = unrolled (statementsOf s levels t at x)
 
-abbrev pub checked : List ℕ → Outcome (Unit {0}) (Module (Unit {0}) (Unit {0})) → Front
-checked s (ok m at u) = third s (m .declarations) (m .statements)
-checked s (no n p u) = refused n p
+  abbrev pub declared : List ℕ → ℕ → Outcome State (List ℕ) → Front
+  declared s b (ok t at x) = fourth s b t x
+  declared s b (no n p x) = refused n p
 
-unfoldable pub second : List ℕ → Front
-second s = checked s (checkedText s)
+  unfoldable pub third : List ℕ → ℕ → ℕ → Front
+  third s at b = declared s b (declarationsOf s at (replicate 2588 0, 0))
 
-unfoldable pub frontOf : List ℕ → Front
-frontOf s = pick (leb (length s) 32768) (second s) (refused 1 0)
+  abbrev pub checked : List ℕ → Outcome (Unit {0}) (Module (Unit {0}) (Unit {0})) → Front
+  checked s (ok m at u) = third s (m .declarations) (m .statements)
+  checked s (no n p u) = refused n p
+
+  unfoldable pub second : List ℕ → Front
+  second s = checked s (checkedText s)
+
+  unfoldable pub frontOf : List ℕ → Front
+  frontOf s = pick (leb (length s) 32768) (second s) (refused 1 0)
