@@ -9,3 +9,5 @@ pub mod Declared
 pub mod Shared
 pub mod Acts
 pub mod Unrolled
+pub mod Sharing
+pub mod Texts
