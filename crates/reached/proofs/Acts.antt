@@ -1,5 +1,5 @@
 -- Simple statements never pass a bound, and write to elements below 64 only: a count of a list's numbers is below the text's length, a count of nodes is at most
--- 2,048, and of two elements at one pin that pin's number was given twice.
+-- 2,048, an equation's nodes lie among them, and of two elements at one pin that pin's number was given twice.
 -- Assumes nothing.
 use mathlib.Core.Path.{_≡_, refl, sym, ap, ap₂, subst, _∙_}
 use mathlib.Core.Bool.{Bool, true, false}
@@ -37,11 +37,13 @@ use Rattle.reached.proofs.Both.{Fine, Both, fine-pick, both-pick, fine-
 use Rattle.reached.proofs.Notes.{assigned-free}
 use Rattle.reached.proofs.Declared.{Read, number-read, with-count}
 use Rattle.reached.proofs.Shared.{Pinned, set-aside, positioned-keeps, miscounted-keeps, assigned-keeps, used-keeps}
+use Rattle.reached.proofs.Runs.{Runs, set-beside, positioned-runs, miscounted-runs, assigned-runs, used-runs}
 
 -- what holds of the memory and the count of nodes while statements are carried out
 pub record Sound (x : State) : Type 0 where
   pub nodes : x .1 ≤ 2048
   pub pinned : Pinned (x .0)
+  pub runs : Runs (x .0)
 
 abbrev pub Left : ℤ → State → Type 0
 Left v x = Sound x
@@ -63,7 +65,12 @@ emit K c p x h = outer (ltb (x .1) 2048) refl
 
 emit-sound : (c p : ℕ) (x : State) → c ≤ 72 → Sound x → HoldsB Sound Bounded (emitted c p x)
 emit-sound c p x h r =
-    emit Sound c p x (λ l g. record { nodes = omega arith; pinned = set-aside (x .0) (x .1) c (λ i q e. omega arith) (λ p q e. omega arith) (r .pinned) })
+    emit Sound c p x (λ l g.
+    record {
+      nodes = omega arith;
+      pinned = set-aside (x .0) (x .1) c (λ i q e. omega arith) (λ p q e. omega arith) (r .pinned);
+      runs = set-beside (x .0) (x .1) c (λ i q e. omega arith) (λ i q e. omega arith) (r .runs);
+    })
 
 holds-left : (o : Outcome State ℤ) → Holds Sound Bounded o → Fine Left o
 holds-left (ok v e x) h = h .1
@@ -174,7 +181,8 @@ module _ (s t : List ℕ) (d : ℕ) (fair : AllFair t) where
 
     gives : (v z : ℤ) (i : ℕ) (y : State) → v ≡ pos i → f + i < 64 → Sound y → Sound (gaveOf s t d true f v z y)
     gives v z i y e h r =
-        record { nodes = r .nodes; pinned = positioned-keeps (y .0) (f + upward v) z (subst (λ (w : ℤ). f + upward w < 64) (sym e) h) (r .pinned) }
+        let u : f + upward v < 64 = subst (λ (w : ℤ). f + upward w < 64) (sym e) h in
+        record { nodes = r .nodes; pinned = positioned-keeps (y .0) (f + upward v) z u (r .pinned); runs = positioned-runs (y .0) (f + upward v) z u (r .runs) }
 
     abbrev first : ℕ → ℤ → ℕ → State → Outcome State ℤ
     first n v at x = repeat (numberTurn s t d false f) n v at x
@@ -232,7 +240,11 @@ module _ (s t : List ℕ) (d : ℕ) (small : length s ≤ 32768) (fair : AllFair
       let l : assignedIn (y .0) k (x .1) (y .1) ≡ free.assignedIn (y .0) k (x .1) (y .1) = assigned-free (y .0) k (x .1) (y .1) (omega arith) (omega arith) in
       ok-same Left (pos 0) (pos 0) e (with-count (assignedIn (y .0) k (x .1) (y .1)) (y .1)) (with-count (free.assignedIn (y .0) k (x .1) (y .1)) (y .1)) refl
       (ap (λ (m : List ℕ). with-count m (y .1)) l)
-      (record { nodes = b; pinned = subst Pinned (sym l) (assigned-keeps (y .0) k (x .1) (y .1) h (q .pinned)) }))
+      (record {
+        nodes = b;
+        pinned = subst Pinned (sym l) (assigned-keeps (y .0) k (x .1) (y .1) h (q .pinned));
+        runs = subst Runs (sym l) (assigned-runs (y .0) k (x .1) (y .1) h a b (q .runs));
+      }))
 
   counted-of : (f n at : ℕ) (x : State) → f + widthOf n ≤ 64 → Sound x → (o : Outcome State ℤ) → numbersOf s t d false f at x ≡ o
       → Fine (Ran s t d fair false f 0 x) o → Both Left (andThen o (countedOf s t d f n at)) (andThen o (free.countedOf s t d f n at))
@@ -248,7 +260,7 @@ module _ (s t : List ℕ) (d : ℕ) (small : length s ≤ 32768) (fair : AllFair
         let until : Until s t d fair f (ok m e y) = omega arith in
         (numbers-run s t d fair true f 0 y (suc (length s)) (pos 0) at c .0,
         gives-all s t d fair f (suc (length s)) (pos 0) 0 refl (omega arith) at x y sound (subst (λ (o : Outcome State ℤ). Until s t d fair f o) (sym q) until)))
-      (λ b. (refl, record { nodes = sound .nodes; pinned = miscounted-keeps (widthOf n) (y .0) f h (sound .pinned) }))
+      (λ b. (refl, record { nodes = sound .nodes; pinned = miscounted-keeps (widthOf n) (y .0) f h (sound .pinned); runs = miscounted-runs (widthOf n) (y .0) f h (sound .runs) }))
   counted-of f n at x h r (no m p y) q u = (refl, tt)
 
   list-of : (f n at : ℕ) (x : State) → f + widthOf n ≤ 64 → Sound x → Both Left (listOf s t d f n at x) (free.listOf s t d f n at x)
@@ -266,11 +278,16 @@ module _ (s t : List ℕ) (d : ℕ) (small : length s ≤ 32768) (fair : AllFair
       let sound : Sound y = subst Sound (sym (q .1)) r in
       let some : 1 ≤ widthOf n = width-some n in
       let over : n ≤ widthOf n = width-over n in
-      record { nodes = sound .nodes; pinned = go (eqb n 0) y z (positioned-keeps (y .0) f z (omega arith) (sound .pinned)) (miscounted-keeps n (y .0) f (omega arith) (sound .pinned)) })
+      record {
+        nodes = sound .nodes;
+        pinned = go Pinned (eqb n 0) y z (positioned-keeps (y .0) f z (omega arith) (sound .pinned)) (miscounted-keeps n (y .0) f (omega arith) (sound .pinned));
+        runs = go Runs (eqb n 0) y z (positioned-runs (y .0) f z (omega arith) (sound .runs)) (miscounted-runs n (y .0) f (omega arith) (sound .runs));
+      })
     where
-      go : (b : Bool) (y : State) (z : ℤ) → Pinned (positionedIn (y .0) f z) → Pinned (miscountedFrom (y .0) f n) → Pinned (pick b (positionedIn (y .0) f z) (miscountedFrom (y .0) f n))
-      go true y z p q = p
-      go false y z p q = q
+      go : (P : List ℕ → Type 0) (b : Bool) (y : State) (z : ℤ) → P (positionedIn (y .0) f z) → P (miscountedFrom (y .0) f n)
+          → P (pick b (positionedIn (y .0) f z) (miscountedFrom (y .0) f n))
+      go P true y z p q = p
+      go P false y z p q = q
 
   position-of : (f n at : ℕ) (x : State) → f + widthOf n ≤ 64 → Sound x → Both Left (positionOf s t d f n at x) (free.positionOf s t d f n at x)
   unfolding positionOf free.positionOf
@@ -302,7 +319,7 @@ module _ (s t : List ℕ) (d : ℕ) (small : length s ≤ 32768) (fair : AllFair
 
   -- a statement or a round is counted
   pub sound-used : (x : State) → Sound x → Sound (oneMore (x .0) usedAt 4096, x .1)
-  sound-used x r = record { nodes = r .nodes; pinned = used-keeps (x .0) (r .pinned) }
+  sound-used x r = record { nodes = r .nodes; pinned = used-keeps (x .0) (r .pinned); runs = used-runs (x .0) (r .runs) }
 
   pub simple-of : (st e : ℕ) (x : State) → Sound x → Both Left (simpleOf s t d st e x) (free.simpleOf s t d st e x)
   unfolding simpleOf free.simpleOf

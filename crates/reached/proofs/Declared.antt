@@ -21,7 +21,7 @@ use Rattle.grammar.proofs.Chain.{other}
 use Rattle.judging.specs.Reading.{State, emitted, reads}
 use Rattle.readers.specs.Readers.{expressionOf}
 use Rattle.equations.proofs.Still.{Leaves, reads-still}
-use Rattle.trees.specs.Layout.{pinAt}
+use Rattle.trees.specs.Layout.{startAt, partsLength}
 use Rattle.parts.specs.Parts.{elementsAt, constantsAt, allows, oneMore, declaredFrom}
 use Rattle.simple.specs.Statements.{upward}
 use Rattle.lists.specs.Lists.{isKnown, freshOf, isLength, closedType, lengthOn, lengthOf, typeOf}
@@ -71,7 +71,8 @@ pub record Room (j : ℕ) (t : List ℕ) (x : State) : Type 0 where
   pub constants : getD (x .0) constantsAt 0 ≤ 32
   pub elements : getD (x .0) elementsAt 0 ≤ 64
   pub names : length t + 5 * j ≤ 5 * (getD (x .0) constantsAt 0 + getD (x .0) elementsAt 0)
-  pub unplaced : (i : ℕ) → i < 64 → getD (x .0) (pinAt + i) 0 ≡ 0
+  -- no element is assigned or has a position
+  pub blank : (k : ℕ) → startAt ≤ k → k < partsLength → getD (x .0) k 0 ≡ 0
 
 -- what the memory holds, and a count of nodes
 abbrev pub with-count : List ℕ → ℕ → State
@@ -123,7 +124,7 @@ module _ (s : List ℕ) (small : length s ≤ 32768) where
             constants = r .constants;
             elements = r .elements;
             names = omega arith;
-            unplaced = r .unplaced;
+            blank = r .blank;
           }
 
   constant-from : (t : List ℕ) (st e : ℕ) (x : State) → st < length s → e ≤ length s + 2 → Room 1 t x
@@ -162,7 +163,7 @@ module _ (s : List ℕ) (small : length s ≤ 32768) where
             constants = omega arith;
             elements = omega arith;
             names = omega arith;
-            unplaced = λ i h. getD-set-other (x .0) constantsAt (pinAt + i) v 0 (λ q. omega arith) ∙ r .unplaced i h;
+            blank = λ k g h. getD-set-other (x .0) constantsAt k v 0 (λ q. omega arith) ∙ r .blank k g h;
           })
 
   -- ---- a name of a list
@@ -201,7 +202,7 @@ module _ (s : List ℕ) (small : length s ≤ 32768) where
               constants = omega arith;
               elements = omega arith;
               names = omega arith;
-              unplaced = λ i g. getD-set-other l elementsAt (pinAt + i) (m + w) 0 (λ q. omega arith) ∙ declared-leaves c st w (x .0) m (pinAt + i) h (omega arith) ∙ r .unplaced i g;
+              blank = λ i g u. getD-set-other l elementsAt i (m + w) 0 (λ q. omega arith) ∙ declared-leaves c st w (x .0) m i h g ∙ r .blank i g u;
             } in
         let y : State = (set (declaredFrom (x .0) c st m w) elementsAt (m + w), x .1) in
         let y′ : State = (set l elementsAt (m + w), x .1) in

@@ -7,6 +7,7 @@ pub mod Both
 pub mod Notes
 pub mod Declared
 pub mod Shared
+pub mod Runs
 pub mod Acts
 pub mod Unrolled
 pub mod Sharing

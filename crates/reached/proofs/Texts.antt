@@ -15,7 +15,7 @@ use Rattle.grammar.specs.Outcome.{Outcome, ok, no, levels}
 use Rattle.grammar.specs.Modules.{Module}
 use Rattle.grammar.specs.Forms.{checkedText}
 use Rattle.judging.specs.Reading.{State}
-use Rattle.trees.specs.Layout.{Elements, elementsOf, pinAt}
+use Rattle.trees.specs.Layout.{Elements, elementsOf, startAt, sizeAt, pinAt}
 use Rattle.parts.specs.Parts.{elementsAt, constantsAt}
 use Rattle.circuit.specs.StageFive.{Verdict, stageFive}
 use Rattle.declare.specs.Declarations.{declarationsOf}
@@ -50,7 +50,7 @@ start-room =
       constants = omega arith;
       elements = omega arith;
       names = omega arith;
-      unplaced = λ i h. zero-at (pinAt + i) (omega arith);
+      blank = λ k g h. zero-at k (omega arith);
     }
 
 -- behind the declarations: at most 96 names stand, and no element has a pin
@@ -63,8 +63,15 @@ room-sound t x r =
       nodes = r .nodes;
       pinned = record {
         size = r .size;
-        once = λ i h a b. let z = r .unplaced i h in absurd (omega arith);
-        twice = λ i j h g n s a b. let z = r .unplaced i h in absurd (omega arith);
+        once = λ i h a b. let z = r .blank (pinAt + i) (omega arith) (omega arith) in absurd (omega arith);
+        twice = λ i j h g n s a b. let z = r .blank (pinAt + i) (omega arith) (omega arith) in absurd (omega arith);
+      };
+      runs = record {
+        size = r .size;
+        run = λ i h.
+            let z = r .blank (startAt + i) (omega arith) (omega arith) in
+            let w = r .blank (sizeAt + i) (omega arith) (omega arith) in
+            omega arith;
       };
     }
 
