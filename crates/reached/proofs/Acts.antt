@@ -35,6 +35,7 @@ use Rattle.reached.proofs.Holds.{HoldsB, Holds}
 use Rattle.reached.proofs.Known.{AllFair, FairMeaning, fair-meaning, width-all, width-some, expression-keeps, index-keeps}
 use Rattle.reached.proofs.Both.{Fine, Both, fine-pick, both-pick, fine-word, both-word, ok-same, fine-then, both-then, FineT, BothT, turn-pick, turn-word, turn-then, more-same, last-same, both-repeat}
 use Rattle.reached.proofs.Notes.{assigned-free}
+use Rattle.reached.proofs.Nodes.{signal-same, target-same}
 use Rattle.reached.proofs.Declared.{Read, number-read, with-count}
 use Rattle.reached.proofs.Shared.{Pinned, set-aside, positioned-keeps, miscounted-keeps, assigned-keeps, used-keeps}
 use Rattle.reached.proofs.Runs.{Runs, set-beside, positioned-runs, miscounted-runs, assigned-runs, used-runs}
@@ -233,8 +234,9 @@ module _ (s t : List ℕ) (d : ℕ) (small : length s ≤ 32768) (fair : AllFair
   assignment-of : (k at : ℕ) (x : State) → k < 64 → Sound x → Both Left (assignmentOf s t d k at x) (free.assignmentOf s t d k at x)
   unfolding assignmentOf free.assignmentOf
   assignment-of k at x h r =
-      both-then Left Left (expressionOf s t d 2 at x) (expressionOf s t d 2 at x) _ _
-      (refl, holds-left (expressionOf s t d 2 at x) (expression-keeps s t fair Sound emit-sound d 2 at x r)) (λ v e y q.
+      let size = r .pinned .size in
+      both-then Left Left (expressionOf s t d 2 at x) (free.signalOf s t d at x) _ _
+      (signal-same s t d at x (omega arith), holds-left (expressionOf s t d 2 at x) (expression-keeps s t fair Sound emit-sound d 2 at x r)) (λ v e y q.
       let a : x .1 ≤ 2048 = r .nodes in
       let b : y .1 ≤ 2048 = q .nodes in
       let l : assignedIn (y .0) k (x .1) (y .1) ≡ free.assignedIn (y .0) k (x .1) (y .1) = assigned-free (y .0) k (x .1) (y .1) (omega arith) (omega arith) in
@@ -314,8 +316,10 @@ module _ (s t : List ℕ) (d : ℕ) (small : length s ≤ 32768) (fair : AllFair
   act-of st e x r =
       both-word Left s e x _ _ (λ k p v nx w.
       both-pick Left (eqb k 186) (placedOf s t d st nx x (meaningOf s t st e)) (behindOf s t d x (targetOf s t d st e))
-      (free.placedOf s t d st nx x (meaningOf s t st e)) (free.behindOf s t d x (targetOf s t d st e))
-      (λ b. placed-of st nx x (meaningOf s t st e) (fair-meaning s t st e fair) r) (λ b. behind-of x (targetOf s t d st e) (target-aimed s t d st e fair) r))
+      (free.placedOf s t d st nx x (meaningOf s t st e)) (free.behindOf s t d x (free.targetOf s t d st e))
+      (λ b. placed-of st nx x (meaningOf s t st e) (fair-meaning s t st e fair) r)
+      (λ b. subst (λ (a : Target). Both Left (behindOf s t d x (targetOf s t d st e)) (free.behindOf s t d x a)) (target-same s t d st e)
+      (behind-of x (targetOf s t d st e) (target-aimed s t d st e fair) r)))
 
   -- a statement or a round is counted
   pub sound-used : (x : State) → Sound x → Sound (oneMore (x .0) usedAt 4096, x .1)

@@ -8,6 +8,7 @@ pub mod Notes
 pub mod Declared
 pub mod Shared
 pub mod Runs
+pub mod Nodes
 pub mod Acts
 pub mod Unrolled
 pub mod Sharing

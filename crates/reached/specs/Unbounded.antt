@@ -1,27 +1,28 @@
--- Stages 1 to 5 once more, without the three bounds that the definitions of names, parts and integers carry for the sake of memory: a name is always added, a
--- place or a count is always noted, and behind every number there is one. All else is as in declare, simple, unroll and texts. Document 01, 'The language
--- we take' and 'Refusal numbers', order (3) and (4).
+-- Stages 1 to 5 once more, without the bounds that the definitions of names, parts, integers and judging carry for the sake of memory: a name is always added, a
+-- place or a count is always noted, behind every number there is one, and a node is written whether or not the room holds it. All else is as in declare,
+-- simple, unroll and texts. Document 01, 'The language we take' and 'Refusal numbers', order (3) and (4).
 use Prim.Native.Nat.{ℕ, zero, suc, _+_, _-_}
 use mathlib.Core.Bool.{Bool, true, false}
 use mathlib.Core.List.{List, [], _∷_}
 use lib.ListN.{length, getD, set, replicate}
-use lib.Dec.{eqb, leb}
+use lib.Dec.{eqb, leb, ltb}
 use lib.IntN.{ℤ, pos, negsuc, _+ℤ_}
 use Rattle.basics.specs.Choice.{pick}
 use Rattle.words.specs.Words.{nextWord}
 use Rattle.integers.specs.Integers.{roundsOf}
 use Rattle.names.specs.Names.{lookedUp}
-use Rattle.grammar.specs.Outcome.{Outcome, ok, no, Turn, more, last, onWord, andThen, levels}
-use Rattle.grammar.specs.Grammar.{turned}
+use Rattle.grammar.specs.Outcome.{Outcome, ok, no, Built, built, bad, Turn, more, last, onWord, andThen, levels}
+use Rattle.grammar.specs.Grammar.{Algebra, named, expression, nested, turned}
 use Rattle.grammar.specs.Modules.{Module, thenTurn, wordTurn, repeat}
 use Rattle.grammar.specs.Forms.{checkedText}
-use Rattle.judging.specs.Judging.{Meaning, valued, signal, nothing, meaningOf}
-use Rattle.judging.specs.Reading.{State}
+use Rattle.judging.specs.Judging.{Meaning, valued, signal, nothing, meaningOf, markOf, literalOf, logicOf, plainOf, openedOf, elementOf, operatorOf}
+use Rattle.judging.specs.Judging.{Verdict as Judgement, number, node, fault}
+use Rattle.judging.specs.Reading.{State, based}
 use Rattle.readers.specs.Readers.{expressionOf}
 use Rattle.trees.specs.Layout.{Elements, classAt, placeAt, startAt, sizeAt, timesAt}
 use Rattle.trees.specs.Layout.{elementsOf as elementsIn}
 use Rattle.parts.specs.Parts.{usedAt, elementsAt, constantsAt, allows, oneMore, raised, positionedIn, miscountedFrom}
-use Rattle.simple.specs.Statements.{Target, element, missed, targetOf, upward, gaveOf, oneOf}
+use Rattle.simple.specs.Statements.{Target, element, missed, targetOn, upward, gaveOf, oneOf}
 use Rattle.lists.specs.Lists.{isKnown, freshOf, typeOf}
 use Rattle.declare.specs.Declarations.{widthOf}
 use Rattle.unroll.specs.Loops.{Range, headerOf, passedOf}
@@ -35,6 +36,37 @@ added t st n k v m = st ∷ n ∷ k ∷ v ∷ m ∷ t
 -- the number behind a number
 abbrev pub behind : ℤ → ℤ
 behind z = z +ℤ pos 1
+
+-- ---- signals: a node more, at most 2,048 over the module
+
+unfoldable pub emitted : ℕ → ℕ → State → Built State ℤ
+emitted c p x = pick (ltb (x .1) 2048) (built (pos 0) (set (x .0) (x .1) c, x .1 + 1)) (bad 6 p x)
+
+abbrev pub done : Judgement → ℕ → State → Built State ℤ
+done (number v) p x = built v x
+done (node c) p x = emitted c p x
+done (fault n q) p x = bad n q x
+
+abbrev pub reads : List ℕ → List ℕ → Algebra State ℤ (ℕ × ℕ)
+reads s t = record {
+  literal = λ o p v x. done (literalOf o p v) p x;
+  logic = λ o p v x. done (logicOf o p v) p x;
+  plain = λ o st e x. done (plainOf s t o st e) st x;
+  opened = λ o st e p x. based (openedOf s t o st e p) x;
+  element = λ o st e p b i x. done (elementOf o st p (b .0) (b .1) i) st x;
+  invert = λ o p v x. done (markOf o 2 p) p x;
+  apply = λ o k p v w x. done (operatorOf o k p v w) p x;
+  choose = λ o p a b c x. done (markOf o 6 p) p x;
+  hold = λ o p a x. done (markOf o 7 p) p x;
+  keep = λ o p a b x. done (markOf o 8 p) p x;
+}
+
+-- the signal at a place, and the element that a name with its index is
+abbrev pub signalOf : List ℕ → List ℕ → ℕ → ℕ → State → Outcome State ℤ
+signalOf s t d at x = expression (reads s t) s (nested (reads s t) s d) 2 at x
+
+abbrev pub indexOf : List ℕ → List ℕ → ℕ → ℕ → ℕ → State → Outcome State ℤ
+indexOf s t d st e x = named (reads s t) s (nested (reads s t) s d) 2 st e x
 
 -- ---- parts
 
@@ -116,8 +148,11 @@ module _ (s : List ℕ) where
 -- ---- simple statements
 
 module _ (s t : List ℕ) (d : ℕ) where
+  unfoldable pub targetOf : ℕ → ℕ → Target
+  targetOf st e = targetOn (indexOf s t d st e (0 ∷ [], 0))
+
   unfoldable pub assignmentOf : ℕ → ℕ → State → Outcome State ℤ
-  assignmentOf k at x = andThen (expressionOf s t d 2 at x) (λ v e y. ok (pos 0) e (assignedIn (y .0) k (x .1) (y .1), y .1))
+  assignmentOf k at x = andThen (signalOf s t d at x) (λ v e y. ok (pos 0) e (assignedIn (y .0) k (x .1) (y .1), y .1))
 
   unfoldable pub numberTurn : Bool → ℕ → ℤ → ℕ → State → Turn State ℤ
   numberTurn g f v at x =
@@ -151,7 +186,7 @@ module _ (s t : List ℕ) (d : ℕ) where
 
   unfoldable pub actOf : ℕ → ℕ → State → Outcome State ℤ
   actOf st e x =
-      onWord x (nextWord s e) (λ k p v nx. pick (eqb k 186) (placedOf st nx x (meaningOf s t st e)) (behindOf x (targetOf s t d st e)))
+      onWord x (nextWord s e) (λ k p v nx. pick (eqb k 186) (placedOf st nx x (meaningOf s t st e)) (behindOf x (targetOf st e)))
 
   unfoldable pub simpleOf : ℕ → ℕ → State → Outcome State ℤ
   simpleOf st e x = pick (allows (x .0) usedAt 4096) (actOf st e (oneMore (x .0) usedAt 4096, x .1)) (no 6 st x)
