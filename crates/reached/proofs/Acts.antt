@@ -1,7 +1,7 @@
 -- Simple statements never pass a bound, and write to elements below 64 only: a count of a list's numbers is below the text's length, a count of nodes is at most
 -- 2,048, an equation's nodes lie among them, and of two elements at one pin that pin's number was given twice.
 -- Assumes nothing.
-use mathlib.Core.Path.{_≡_, refl, sym, ap, ap₂, subst, _∙_}
+use mathlib.Core.Path.{_≡_, refl, sym, ap, subst, _∙_}
 use mathlib.Core.Bool.{Bool, true, false}
 use mathlib.Core.List.{List, [], _∷_}
 use Prim.Native.Nat.{ℕ, zero, suc, _+_, _-_, _<_, _≤_}
@@ -9,15 +9,15 @@ use native.Mathlib.Omega.{arith}
 use lib.ListN.{length, getD, set, length-set}
 use lib.Seq.{getD-set-same}
 use lib.Dec.{eqb, ltb}
-use lib.IntN.{ℤ, pos, negsuc}
-use borrow.Author.Tests.{eqb-true, eqb-false, ltb-true}
+use lib.IntN.{ℤ, pos}
+use borrow.Author.Tests.{eqb-true, ltb-true}
 use Rattle.basics.specs.Choice.{pick}
 use Rattle.basics.proofs.Truth.{clash}
 use Rattle.words.specs.declared.Taken.{Taken}
 use Rattle.words.specs.declared.Taken.the-variants.{Word, Refused}
 use Rattle.words.specs.Words.{nextWord}
 use Rattle.integers.specs.Integers.{nextℤ}
-use Rattle.grammar.specs.Outcome.{Outcome, ok, no, Built, built, bad, Turn, more, last, onWord, andThen}
+use Rattle.grammar.specs.Outcome.{Outcome, ok, no, built, bad, more, last, andThen}
 use Rattle.grammar.specs.Grammar.{onTurn}
 use Rattle.grammar.specs.Modules.{thenTurn, wordTurn, repeat}
 use Rattle.grammar.proofs.Related.{RelO}
@@ -33,7 +33,7 @@ use Rattle.reached.proofs.Rounds.{next-up}
 use Rattle.reached.proofs.Numbers.{Bounded}
 use Rattle.reached.proofs.Holds.{HoldsB, Holds}
 use Rattle.reached.proofs.Known.{AllFair, FairMeaning, fair-meaning, width-all, width-some, expression-keeps, index-keeps}
-use Rattle.reached.proofs.Both.{Fine, Both, fine-pick, both-pick, fine-word, both-word, ok-same, fine-then, both-then, FineT, BothT, turn-pick, turn-word, turn-then, more-same, last-same, both-repeat}
+use Rattle.reached.proofs.Both.{Fine, Both, both-pick, both-word, ok-same, fine-then, both-then, BothT, turn-pick, turn-word, turn-then, more-same, last-same, both-repeat}
 use Rattle.reached.proofs.Notes.{assigned-free}
 use Rattle.reached.proofs.Nodes.{signal-same, target-same}
 use Rattle.reached.proofs.Declared.{Read, number-read, with-count}

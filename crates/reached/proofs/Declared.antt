@@ -1,24 +1,22 @@
 -- Stage 3 never passes a bound: at every place of the declarations there are at most five numbers for each constant and each element that was counted, so a
 -- name is always added; and a place of a text is always noted.
 -- Assumes nothing.
-use mathlib.Core.Path.{_≡_, refl, sym, ap, ap₂, subst, _∙_}
+use mathlib.Core.Path.{_≡_, refl, sym, ap, subst, _∙_}
 use mathlib.Core.Bool.{Bool, true, false}
-use mathlib.Core.List.{List, [], _∷_}
+use mathlib.Core.List.{List, []}
 use Prim.Native.Nat.{ℕ, zero, suc, _+_, _-_, _*_, _<_, _≤_}
 use native.Mathlib.Omega.{arith}
-use lib.ListN.{length, getD, set, replicate, length-set}
+use lib.ListN.{length, getD, set, length-set}
 use lib.Seq.{getD-set-same, getD-set-other}
 use lib.Dec.{eqb, leb, ltb}
 use lib.IntN.{ℤ, pos, negsuc}
 use borrow.Author.Tests.{leb-true, ltb-true}
 use Rattle.basics.specs.Choice.{pick}
-use Rattle.words.specs.Words.{nextWord}
 use Rattle.names.specs.Names.{lookedUp, extended, numberOf}
-use Rattle.grammar.specs.Outcome.{Outcome, ok, no, Built, built, bad, Turn, more, last, onWord, andThen, levels}
-use Rattle.grammar.specs.Grammar.{closed, turned, expression, nested}
-use Rattle.grammar.specs.Modules.{wordTurn, repeat}
+use Rattle.grammar.specs.Outcome.{Outcome, ok, no, built, bad, more, last, levels}
+use Rattle.grammar.specs.Grammar.{closed, turned}
 use Rattle.grammar.proofs.Chain.{other}
-use Rattle.judging.specs.Reading.{State, emitted, reads}
+use Rattle.judging.specs.Reading.{State, emitted}
 use Rattle.readers.specs.Readers.{expressionOf}
 use Rattle.equations.proofs.Still.{Leaves, reads-still}
 use Rattle.trees.specs.Layout.{startAt, partsLength}
@@ -27,12 +25,11 @@ use Rattle.simple.specs.Statements.{upward}
 use Rattle.lists.specs.Lists.{isKnown, freshOf, isLength, closedType, lengthOn, lengthOf, typeOf}
 use Rattle.declare.specs.Declarations.{withConstant, widthOf, elementName, constantEnd, constantFrom, constantOf, elementTurn, elementsOf, listEnd, signalsFrom, signalsOf, itemOf, itemTurn, itemsOf, sectionOf, sectionsOf, declarationsOf}
 use Rattle.reached.specs.Unbounded as free
-use Rattle.reached.proofs.Places.{Stands}
 use Rattle.reached.proofs.Numbers.{Bounded}
 use Rattle.reached.proofs.Holds.{HoldsB, Holds}
-use Rattle.reached.proofs.Known.{Fair, AllFair, width-some, expression-keeps}
-use Rattle.reached.proofs.Both.{Fine, Both, fine-pick, both-pick, fine-word, both-word, ok-same, fine-then, both-then, FineT, BothT, turn-pick, turn-word, more-same, last-same, turn-turned, both-repeat}
-use Rattle.reached.proofs.Notes.{noted-sets, extended-adds, declared-free, declared-size, declared-leaves}
+use Rattle.reached.proofs.Known.{AllFair, width-some, expression-keeps}
+use Rattle.reached.proofs.Both.{Fine, Both, fine-pick, both-pick, fine-word, both-word, ok-same, fine-then, both-then, BothT, turn-pick, turn-word, more-same, turn-turned, both-repeat}
+use Rattle.reached.proofs.Notes.{extended-adds, declared-free, declared-size, declared-leaves}
 
 -- ---- numbers leave the state, and are within bounds
 

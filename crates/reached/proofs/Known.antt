@@ -1,19 +1,18 @@
 -- What the names that stand at a place keep: a constant and a loop variable say a number within -65,535 to 65,535, a signal's elements are among 64. So do all
 -- expressions that are read among them: a number is within bounds, and a node is an operation's or an element's.
 -- Assumes nothing.
-use mathlib.Core.Path.{_≡_, refl, sym, ap, subst, _∙_}
+use mathlib.Core.Path.{_≡_, refl}
 use mathlib.Core.Bool.{Bool, true, false}
 use mathlib.Core.List.{List, [], _∷_}
 use Prim.Native.Nat.{ℕ, zero, suc, _+_, _-_, _<_, _≤_}
 use native.Mathlib.Omega.{arith}
-use lib.ListN.{length}
-use lib.Dec.{eqb, leb, ltb}
+use lib.Dec.{eqb, ltb}
 use lib.IntN.{ℤ, pos, negsuc}
 use borrow.Author.Tests.{eqb-true, eqb-false, ne-eqb, ltb-true, le-leb}
 use Rattle.basics.specs.Choice.{pick}
-use Rattle.integers.specs.Integers.{Answer, held, broken, within, combined}
-use Rattle.names.specs.Names.{Spelling, Seen, known, unknown, Sought, found, missing, find, Entry, entry, entries, shown, same, spelling, numberOf, lookedUp}
-use Rattle.grammar.specs.Outcome.{Outcome, ok, no, Built, built, bad}
+use Rattle.integers.specs.Integers.{Answer, held, broken, combined}
+use Rattle.names.specs.Names.{Spelling, Seen, known, unknown, Sought, found, find, Entry, entry, entries, shown, same, spelling, numberOf, lookedUp}
+use Rattle.grammar.specs.Outcome.{ok, no}
 use Rattle.judging.specs.Judging.{Verdict, number, node, fault, Array, base, unfit, Meaning, valued, signal, nothing, meaningOn, meaningOf, markOf, literalOf, logicOf, plainOn, plainOf, openedOn, openedOf, elementOn, elementOf, answered, operatorOf}
 use Rattle.judging.specs.Reading.{State, emitted, done, based, reads}
 use Rattle.readers.specs.Readers.{innerOf, indexOf, expressionOf}

@@ -4,7 +4,7 @@
 use mathlib.Core.Path.{_≡_, refl, sym, ap, subst, _∙_}
 use mathlib.Core.Bool.{Bool, true, false}
 use mathlib.Core.List.{List, [], _∷_}
-use Prim.Native.Nat.{ℕ, zero, suc, _+_, _<_, _≤_}
+use Prim.Native.Nat.{ℕ, _+_, _<_, _≤_}
 use native.Mathlib.Omega.{arith}
 use lib.ListN.{length, set, length-set}
 use lib.Dec.{eqb, ltb}
@@ -16,13 +16,13 @@ use Rattle.words.specs.declared.Taken.{Taken}
 use Rattle.words.specs.declared.Taken.the-variants.{Word, Refused}
 use Rattle.words.specs.Words.{nextWord}
 use Rattle.grammar.specs.Outcome.{Outcome, ok, no, Built, built, bad, onWord, andThen, builtAt, afterBuilt}
-use Rattle.grammar.specs.Grammar.{Algebra, indexSort, partSort, part, dotted, bracketed, pointed, named, expression, nested}
+use Rattle.grammar.specs.Grammar.{indexSort, partSort, part, dotted, bracketed, pointed, named, expression, nested}
 use Rattle.grammar.proofs.Related.{RelB, RelO, rel-part, rel-expression, rel-nested}
 use Rattle.judging.specs.Judging.{Verdict, number, node, fault, Array, base, unfit, meaningOf, markOf, literalOf, logicOf, plainOf, openedOf, elementOf, operatorOf}
 use Rattle.judging.specs.Reading.{State, emitted, done, based, reads}
-use Rattle.readers.specs.Readers.{indexOf, expressionOf}
+use Rattle.readers.specs.Readers.{expressionOf}
 use Rattle.equations.proofs.Written.{Emits, emits-mark, emits-literal, emits-logic, emits-plain, emits-element, emits-operator, logicCode, nameCode, elementCode, operatorCode, part-two, index-two}
-use Rattle.simple.specs.Statements.{Target, targetOn, targetOf}
+use Rattle.simple.specs.Statements.{targetOn, targetOf}
 use Rattle.reached.specs.Unbounded as free
 
 abbrev Alike : ℤ → ℤ → Type 0

@@ -1,18 +1,13 @@
 -- Where a place or a count is at most 65,535 it is noted, and where there is room a name is added. What declarations write leaves the tables of pins and the
 -- counts as they were.
 -- Assumes nothing.
-use mathlib.Core.Path.{_≡_, refl, sym, ap, ap₂, subst, _∙_}
-use mathlib.Core.Bool.{Bool, true, false}
-use mathlib.Core.List.{List, [], _∷_}
-use Prim.Native.Nat.{ℕ, zero, suc, _+_, _-_, _<_, _≤_}
+use mathlib.Core.Path.{_≡_, refl, ap, _∙_}
+use mathlib.Core.List.{List}
+use Prim.Native.Nat.{ℕ, zero, suc, _+_, _-_, _≤_}
 use native.Mathlib.Omega.{arith}
 use lib.ListN.{length, getD, set, length-set}
-use lib.Seq.{getD-set-same, getD-set-other}
-use lib.Dec.{eqb, leb, ltb}
-use lib.IntN.{ℤ, pos, negsuc}
+use lib.Seq.{getD-set-other}
 use borrow.Author.Tests.{le-leb}
-use Rattle.basics.specs.Choice.{pick}
-use Rattle.integers.specs.Integers.{nextℤ}
 use Rattle.names.specs.Names.{extended}
 use Rattle.trees.specs.Layout.{classAt, placeAt, startAt, sizeAt, timesAt}
 use Rattle.parts.specs.Parts.{noted, raised, declaredFrom, assignedIn}

@@ -1,13 +1,13 @@
 -- What an operator gives of numbers within -65,535 to 65,535 is within them.
 -- Assumes nothing.
-use mathlib.Core.Path.{_≡_, refl, sym, ap, subst, _∙_}
+use mathlib.Core.Path.{_≡_, refl}
 use mathlib.Core.Bool.{Bool, true, false}
 use Prim.Native.Nat.{ℕ, zero, suc, _+_, _-_, _/_, _%_, _^_, _<_, _≤_}
 use native.Mathlib.Nat.{mod-lt, div-le-self, le-trans, lt-of-le-of-lt, pow-le-pow-right}
 use native.Mathlib.Omega.{arith}
-use lib.Dec.{leb, ltb, eqb}
+use lib.Dec.{leb, eqb}
 use lib.IntN.{ℤ, pos, negsuc, _+ℤ_, _-ℤ_, _*ℤ_}
-use borrow.Author.Tests.{ltb-true, leb-true, eqb-true, eqb-false, le-leb, lt-ltb}
+use borrow.Author.Tests.{ltb-true, leb-true, eqb-false, le-leb, lt-ltb}
 use Rattle.basics.specs.Choice.{pick}
 use Rattle.integers.specs.Integers.{Answer, held, broken, within, fitted, divℤ, modℤ, divided, leftOver, powered, combined}
 

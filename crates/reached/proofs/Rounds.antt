@@ -1,13 +1,12 @@
 -- Rounds of FOR go by one, up to an upper bound that is within the numbers of the language: the number behind the last number is never taken.
 -- Assumes nothing.
-use mathlib.Core.Path.{_≡_, refl, sym, ap, subst, _∙_}
+use mathlib.Core.Path.{_≡_, refl, sym, ap, _∙_}
 use mathlib.Core.Bool.{Bool, true, false, cond}
 use Prim.Native.Nat.{ℕ, zero, suc, _+_, _-_, _<_, _≤_}
 use native.Mathlib.Omega.{arith}
-use lib.Dec.{leb, ltb, eqb}
-use lib.IntN.{ℤ, pos, negsuc, subℕ, _+ℤ_, _-ℤ_, +ℤ-idr, +ℤ-assoc}
+use lib.Dec.{ltb}
+use lib.IntN.{ℤ, pos, negsuc, subℕ, _+ℤ_, +ℤ-idr, +ℤ-assoc}
 use borrow.Author.Tests.{ltb-true, ltb-false, leb-true, lt-ltb, ne-eqb}
-use Rattle.basics.specs.Choice.{pick}
 use Rattle.integers.specs.Integers.{within, upTo, roundsOf, nextℤ}
 use Rattle.integers.proofs.Signs.{sub-pos, negsuc-sub}
 

@@ -1,20 +1,19 @@
 -- Decision 46: where another IN or OUT stands at an element's pin, that pin's number was given twice, so refusal 10 by the counts of given numbers alone is stage
 -- 5's. (The other way round it is not so: a number that was given to a VAR, or to an element that another number was given too, counts and leaves no pin.)
 -- Assumes nothing.
-use mathlib.Core.Path.{_≡_, refl, sym, ap, ap₂, subst, _∙_}
+use mathlib.Core.Path.{_≡_, refl, sym, ap, ap₂, _∙_}
 use mathlib.Core.Bool.{Bool, true, false, not, _&&_, _||_}
 use mathlib.Core.List.{List}
-use Prim.Native.Nat.{ℕ, zero, suc, _+_, _<_, _≤_}
+use Prim.Native.Nat.{ℕ, zero, suc, _<_, _≤_}
 use native.Mathlib.Omega.{arith}
-use lib.ListN.{getD}
 use lib.Dec.{eqb, ltb}
 use borrow.Author.Tests.{eqb-true, eqb-false, not-true, not-false, ltb-true, ltb-false, le-ltb}
 use Rattle.basics.specs.Choice.{pick}
 use Rattle.basics.specs.Below.{anyBelow}
-use Rattle.basics.proofs.Truth.{true-of, of-true, and-l, and-r, clash}
-use Rattle.trees.specs.Layout.{Elements, elementsOf, classOf, pinAt, givenAt}
+use Rattle.basics.proofs.Truth.{true-of, of-true, and-l, and-r}
+use Rattle.trees.specs.Layout.{Elements, elementsOf, classOf}
 use Rattle.circuit.specs.Pins.{roleOf}
-use Rattle.circuit.specs.StageFive.{misassigned, misplaced, looped, standsBeside, positionedRight, mispositioned, firstBelow, Verdict, fine, refused, pass, stageFive}
+use Rattle.circuit.specs.StageFive.{misassigned, misplaced, looped, standsBeside, positionedRight, mispositioned, fine, refused, pass, stageFive}
 use Rattle.circuit.proofs.First.{first-same}
 use Rattle.reached.specs.Counted.{positionedOnce, mispositionedOnce, countedFive}
 use Rattle.reached.proofs.Shared.{Pinned, pin, given}

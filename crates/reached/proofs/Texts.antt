@@ -1,12 +1,13 @@
--- What is out of reach of a text. Document 01 knows no bound on names together, on places or counts, or on the numbers behind a number; the definitions of names,
--- parts and integers carry three, and refusal 10 looks at pins beside counts. Without all four the outcome of every text is the same.
+-- What is out of reach of a text. Document 01 knows no bound on names together, on places, on the number behind a number, or on a room of nodes other than 2,048;
+-- the definitions of names, parts, integers and judging carry these, and refusal 10 looks at pins beside counts. Without them the outcome of every text is the
+-- same. Of a text that is let pass no equation is cut.
 -- Assumes nothing.
-use mathlib.Core.Path.{_≡_, refl, sym, ap, subst, _∙_}
+use mathlib.Core.Path.{_≡_, refl, ap, subst, _∙_}
 use mathlib.Core.Bool.{Bool, true, false}
 use mathlib.Core.List.{List, []}
-use Prim.Native.Nat.{ℕ, zero, suc, _+_, _*_, _<_, _≤_}
+use Prim.Native.Nat.{ℕ, _+_, _<_, _≤_}
 use native.Mathlib.Omega.{arith}
-use lib.ListN.{length, getD, replicate, length-replicate, getD-replicate}
+use lib.ListN.{length, getD, take, drop, replicate, length-replicate, getD-replicate}
 use lib.Dec.{leb}
 use lib.IntN.{ℤ}
 use borrow.Author.Tests.{leb-true}
@@ -18,15 +19,17 @@ use Rattle.judging.specs.Reading.{State}
 use Rattle.trees.specs.Layout.{Elements, elementsOf, startAt, sizeAt, pinAt}
 use Rattle.parts.specs.Parts.{elementsAt, constantsAt}
 use Rattle.circuit.specs.StageFive.{Verdict, stageFive}
+use Rattle.circuit.specs.StageFive.Verdict.{fine, refused as faulty}
 use Rattle.declare.specs.Declarations.{declarationsOf}
 use Rattle.unroll.specs.Loops.{statementsOf}
-use Rattle.texts.specs.Stages.{Front, stays, refused, unless, fifth, unrolled, fourth, declared, third, checked, second, frontOf}
+use Rattle.texts.specs.Stages.{Front, stays, refused, unless, fifth, unrolled, fourth, declared, third, checked, second, frontOf, fitting, wholeOf}
 use Rattle.reached.specs.Unbounded as free
 use Rattle.reached.specs.Counted.{countedFive}
 use Rattle.reached.proofs.Known.{AllFair}
-use Rattle.reached.proofs.Both.{Fine, Both}
+use Rattle.reached.proofs.Both.{Fine}
 use Rattle.reached.proofs.Declared.{Room, declarations-of}
 use Rattle.reached.proofs.Shared.{Pinned}
+use Rattle.reached.proofs.Runs.{Runs, begins, counts, nodes-whole}
 use Rattle.reached.proofs.Acts.{Sound, Left}
 use Rattle.reached.proofs.Unrolled.{Names, statements-of}
 use Rattle.reached.proofs.Sharing.{counted-five}
@@ -124,3 +127,46 @@ front-unbounded s = front-same stageFive (λ l r. refl) s
 -- and so they do where, besides, refusal 10 goes by the counts of given numbers alone
 pub front-counted : (s : List ℕ) → frontOf s ≡ free.frontOf countedFive s
 front-counted s = front-same countedFive counted-five s
+
+-- (6) too, whose verdict is over what stays
+pub whole-counted : (s : List ℕ) → wholeOf s ≡ fitting (free.frontOf countedFive s)
+unfolding wholeOf
+whole-counted s = ap fitting (front-counted s)
+
+-- ---- what stays
+
+abbrev Whole : Front → Type 0
+Whole (stays parts) = Runs parts
+Whole (refused n p) = Unit {0}
+
+whole-unless : (v : Verdict) (l : List ℕ) → Runs l → Whole (unless v l)
+whole-unless fine l r = r
+whole-unless (faulty n q) l r = tt
+
+whole-unrolled : (o : Outcome State ℤ) → Fine Left o → Whole (unrolled o)
+unfolding fifth
+whole-unrolled (ok v at x) r = whole-unless (stageFive (elementsOf (x .0))) (x .0) (r .runs)
+whole-unrolled (no n p x) r = tt
+
+whole-declared : (s : List ℕ) → length s ≤ 32768 → (b : ℕ) (o : Outcome State (List ℕ)) → Fine (Room 0) o → Whole (declared s b o)
+unfolding fourth
+whole-declared s small b (ok t at x) r = whole-unrolled (statementsOf s levels t b x) (statements-of s small levels t b x (room-names t x r) (room-sound t x r) .1)
+whole-declared s small b (no n p x) r = tt
+
+whole-checked : (s : List ℕ) → length s ≤ 32768 → (o : Outcome (Unit {0}) (Module (Unit {0}) (Unit {0}))) → Whole (checked s o)
+unfolding third
+whole-checked s small (ok m at u) =
+    whole-declared s small (m .statements) (declarationsOf s (m .declarations) (zeros, 0)) (declarations-of s small (m .declarations) (zeros, 0) start-room .1)
+whole-checked s small (no n p u) = tt
+
+whole-front : (s : List ℕ) → Whole (frontOf s)
+unfolding frontOf second
+whole-front s = go (leb (length s) 32768) refl
+  where
+    go : (b : Bool) → leb (length s) 32768 ≡ b → Whole (pick b (second s) (refused 1 0))
+    go true e = whole-checked s (leb-true (length s) 32768 e) (checkedText s)
+    go false e = tt
+
+-- the nodes of each element are all that were written for it: those from where its equation starts, as many as it has
+pub nodes-uncut : (s parts : List ℕ) (i : ℕ) → i < 64 → frontOf s ≡ stays parts → elementsOf parts .nodes i ≡ take (counts parts i) (drop (begins parts i) parts)
+nodes-uncut s parts i h e = nodes-whole parts i h (subst Whole e (whole-front s))

@@ -1,34 +1,31 @@
 -- Stage 4 never passes a bound: with d levels of nesting left the names take at most 640 - 5 d numbers, so a loop variable is always added; and the number behind
 -- that of a round is taken only where a round is left.
 -- Assumes nothing.
-use mathlib.Core.Path.{_≡_, refl, sym, ap, ap₂, subst, _∙_}
+use mathlib.Core.Path.{_≡_, refl, sym, subst}
 use mathlib.Core.Bool.{Bool, true, false}
-use mathlib.Core.List.{List, [], _∷_}
+use mathlib.Core.List.{List}
 use Prim.Native.Nat.{ℕ, zero, suc, _+_, _-_, _*_, _<_, _≤_}
 use native.Mathlib.Omega.{arith}
 use lib.ListN.{length}
-use lib.Dec.{eqb, leb, ltb}
-use lib.IntN.{ℤ, pos, negsuc, _+ℤ_}
-use borrow.Author.Tests.{leb-true, ltb-true, le-leb, lt-ltb}
+use lib.Dec.{eqb, ltb}
+use lib.IntN.{ℤ, pos, negsuc}
+use borrow.Author.Tests.{ltb-true, le-leb, lt-ltb}
 use Rattle.basics.specs.Choice.{pick}
-use Rattle.words.specs.Words.{nextWord}
-use Rattle.integers.specs.Integers.{within, nextℤ, roundsOf}
-use Rattle.names.specs.Names.{extended, numberOf}
-use Rattle.grammar.specs.Outcome.{Outcome, ok, no, Turn, more, last, onWord, andThen}
+use Rattle.integers.specs.Integers.{nextℤ, roundsOf}
+use Rattle.names.specs.Names.{numberOf}
+use Rattle.grammar.specs.Outcome.{Outcome, ok, no, more, last}
 use Rattle.grammar.specs.Grammar.{closed}
-use Rattle.grammar.specs.Modules.{thenTurn, wordTurn, repeat}
 use Rattle.grammar.proofs.Chain.{other}
 use Rattle.judging.specs.Reading.{State}
 use Rattle.readers.specs.Readers.{expressionOf}
 use Rattle.parts.specs.Parts.{usedAt, allows, oneMore}
 use Rattle.simple.specs.Statements.{simpleOf}
-use Rattle.unroll.specs.Loops.{withLoop, passedOf, Range, range, upperOf, lowerOf, rangeOf, headerOf, roundOf, turnsOf, closedBy, loopOf, forFrom, again, statementTurn, statementsWith, forOf, statementsOf}
+use Rattle.unroll.specs.Loops.{withLoop, passedOf, Range, upperOf, lowerOf, rangeOf, headerOf, roundOf, turnsOf, closedBy, loopOf, forFrom, again, statementTurn, statementsWith, forOf, statementsOf}
 use Rattle.reached.specs.Unbounded as free
-use Rattle.reached.proofs.Places.{Stands}
 use Rattle.reached.proofs.Rounds.{round-step}
 use Rattle.reached.proofs.Numbers.{Bounded}
-use Rattle.reached.proofs.Known.{Fair, AllFair}
-use Rattle.reached.proofs.Both.{Fine, Both, fine-pick, both-pick, fine-word, both-word, fine-then, both-then, FineT, BothT, turn-pick, turn-word, turn-then, both-repeat}
+use Rattle.reached.proofs.Known.{AllFair}
+use Rattle.reached.proofs.Both.{Fine, Both, fine-pick, both-pick, fine-word, fine-then, both-then, BothT, turn-pick, turn-word, turn-then, both-repeat}
 use Rattle.reached.proofs.Notes.{extended-adds}
 use Rattle.reached.proofs.Declared.{Read, number-read}
 use Rattle.reached.proofs.Acts.{Sound, Left, simple-of, sound-used}

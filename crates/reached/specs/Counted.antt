@@ -1,5 +1,5 @@
 -- Refusal 10 by the counts of given numbers alone, and stage 5 with it. Document 01, refusal 10: two on one pin; READINGS 26.
-use mathlib.Core.Bool.{Bool, true, false, not}
+use mathlib.Core.Bool.{Bool, false, not}
 use Prim.Native.Nat.{ℕ}
 use lib.Dec.{eqb}
 use Rattle.basics.specs.Choice.{pick}

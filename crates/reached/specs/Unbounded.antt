@@ -21,13 +21,13 @@ use Rattle.judging.specs.Reading.{State, based}
 use Rattle.readers.specs.Readers.{expressionOf}
 use Rattle.trees.specs.Layout.{Elements, classAt, placeAt, startAt, sizeAt, timesAt}
 use Rattle.trees.specs.Layout.{elementsOf as elementsIn}
-use Rattle.parts.specs.Parts.{usedAt, elementsAt, constantsAt, allows, oneMore, raised, positionedIn, miscountedFrom}
+use Rattle.parts.specs.Parts.{usedAt, elementsAt, constantsAt, allows, oneMore, raised, miscountedFrom}
 use Rattle.simple.specs.Statements.{Target, element, missed, targetOn, upward, gaveOf, oneOf}
 use Rattle.lists.specs.Lists.{isKnown, freshOf, typeOf}
 use Rattle.declare.specs.Declarations.{widthOf}
-use Rattle.unroll.specs.Loops.{Range, headerOf, passedOf}
+use Rattle.unroll.specs.Loops.{headerOf, passedOf}
 use Rattle.circuit.specs.StageFive.{Verdict}
-use Rattle.texts.specs.Stages.{Front, stays, refused, unless}
+use Rattle.texts.specs.Stages.{Front, refused, unless}
 
 -- the names with one more in front
 abbrev pub added : List ℕ → ℕ → ℕ → ℕ → ℕ → ℕ → List ℕ
