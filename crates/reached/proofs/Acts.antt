@@ -256,12 +256,13 @@ module _ (s t : List ℕ) (d : ℕ) (small : length s ≤ 32768) (fair : AllFair
       let sound : Sound y = subst Sound (sym same) r in
       both-pick Left (eqb (upward m) n) (numbersOf s t d true f at y) _ (free.numbersOf s t d true f at y) _
       (λ b.
-        let c : Counts 0 (suc (length s)) (pos 0) = start s t d fair (suc (length s)) (omega arith) in
-        let over : n ≤ widthOf n = width-over n in
-        let is : upward m ≡ n = eqb-true (upward m) n b in
-        let until : Until s t d fair f (ok m e y) = omega arith in
-        (numbers-run s t d fair true f 0 y (suc (length s)) (pos 0) at c .0,
-        gives-all s t d fair f (suc (length s)) (pos 0) 0 refl (omega arith) at x y sound (subst (λ (o : Outcome State ℤ). Until s t d fair f o) (sym q) until)))
+      let c : Counts 0 (suc (length s)) (pos 0) = start s t d fair (suc (length s)) (omega arith) in
+      let over : n ≤ widthOf n = width-over n in
+      let is : upward m ≡ n = eqb-true (upward m) n b in
+      let until : Until s t d fair f (ok m e y) = omega arith in (
+        numbers-run s t d fair true f 0 y (suc (length s)) (pos 0) at c .0,
+        gives-all s t d fair f (suc (length s)) (pos 0) 0 refl (omega arith) at x y sound (subst (λ (o : Outcome State ℤ). Until s t d fair f o) (sym q) until),
+      ))
       (λ b. (refl, record { nodes = sound .nodes; pinned = miscounted-keeps (widthOf n) (y .0) f h (sound .pinned); runs = miscounted-runs (widthOf n) (y .0) f h (sound .runs) }))
   counted-of f n at x h r (no m p y) q u = (refl, tt)
 

@@ -188,19 +188,19 @@ module _ (s : List ℕ) (small : length s ≤ 32768) where
         let size = declared-size c st w (x .0) m in
         let here : getD (set l elementsAt (m + w)) elementsAt 0 ≡ m + w = getD-set-same l elementsAt (m + w) 0 (omega arith) in
         let there : getD (set l elementsAt (m + w)) constantsAt 0 ≡ getD (x .0) constantsAt 0 =
-            getD-set-other l elementsAt constantsAt (m + w) 0 (λ q. omega arith) ∙ declared-leaves c st w (x .0) m constantsAt h (omega arith) in
+        getD-set-other l elementsAt constantsAt (m + w) 0 (λ q. omega arith) ∙ declared-leaves c st w (x .0) m constantsAt h (omega arith) in
         let q : extended t st (e - st) 2 m n ≡ free.added t st (e - st) 2 m n = extended-adds t st (e - st) 2 m n (omega arith) (omega arith) (omega arith) in
         let d : declaredFrom (x .0) c st m w ≡ l = declared-free c st (omega arith) w (x .0) m in
         let room : Room 0 (free.added t st (e - st) 2 m n) (set l elementsAt (m + w), x .1) =
-            record {
-              fair = fair-element t st (e - st) m n h (r .fair);
-              size = length-set l elementsAt (m + w) ∙ size ∙ z;
-              nodes = r .nodes;
-              constants = omega arith;
-              elements = omega arith;
-              names = omega arith;
-              blank = λ i g u. getD-set-other l elementsAt i (m + w) 0 (λ q. omega arith) ∙ declared-leaves c st w (x .0) m i h g ∙ r .blank i g u;
-            } in
+        record {
+          fair = fair-element t st (e - st) m n h (r .fair);
+          size = length-set l elementsAt (m + w) ∙ size ∙ z;
+          nodes = r .nodes;
+          constants = omega arith;
+          elements = omega arith;
+          names = omega arith;
+          blank = λ i g u. getD-set-other l elementsAt i (m + w) 0 (λ q. omega arith) ∙ declared-leaves c st w (x .0) m i h g ∙ r .blank i g u;
+        } in
         let y : State = (set (declaredFrom (x .0) c st m w) elementsAt (m + w), x .1) in
         let y′ : State = (set l elementsAt (m + w), x .1) in
         let same : y ≡ y′ = ap (λ (u : List ℕ). with-count (set u elementsAt (m + w)) (x .1)) d in

@@ -93,9 +93,9 @@ module _ (l : List ℕ) (k a b : ℕ) (h : k < 64) (lo : a ≤ 2048) (hi : b ≤
   run-there : (i : ℕ) → i < 64 → (i ≡ k → ⊥) → begins l₂ i + counts l₂ i ≤ 2048
   run-there i g n =
       let e : begins l₂ i ≡ begins l i =
-          getD-set-other l₁ (sizeAt + k) (startAt + i) (b - a) 0 (λ q. omega arith) ∙ getD-set-other l (startAt + k) (startAt + i) a 0 (λ q. n (let u : i ≡ k = omega arith in u)) in
+      getD-set-other l₁ (sizeAt + k) (startAt + i) (b - a) 0 (λ q. omega arith) ∙ getD-set-other l (startAt + k) (startAt + i) a 0 (λ q. n (let u : i ≡ k = omega arith in u)) in
       let f : counts l₂ i ≡ counts l i =
-          getD-set-other l₁ (sizeAt + k) (sizeAt + i) (b - a) 0 (λ q. n (let u : i ≡ k = omega arith in u)) ∙ getD-set-other l (startAt + k) (sizeAt + i) a 0 (λ q. omega arith) in
+      getD-set-other l₁ (sizeAt + k) (sizeAt + i) (b - a) 0 (λ q. n (let u : i ≡ k = omega arith in u)) ∙ getD-set-other l (startAt + k) (sizeAt + i) a 0 (λ q. omega arith) in
       let o = r .run i g in
       omega arith
 

@@ -61,8 +61,8 @@ module _ (l : List ℕ) (r : Pinned l) (i : ℕ) (h : i < 64) where
           let t = of-true (standsBeside e i j) q in
           let apart : eqb j i ≡ false = not-true (eqb j i) (true-of _ (and-l (not (eqb j i)) (eqb (pin l j) (pin l i) && (eqb (classOf l j) 1 || eqb (classOf l j) 2)) t)) in
           let same : eqb (pin l j) (pin l i) ≡ true =
-              true-of _ (and-l (eqb (pin l j) (pin l i)) (eqb (classOf l j) 1 || eqb (classOf l j) 2)
-              (and-r (not (eqb j i)) (eqb (pin l j) (pin l i) && (eqb (classOf l j) 1 || eqb (classOf l j) 2)) t)) in
+          true-of _ (and-l (eqb (pin l j) (pin l i)) (eqb (classOf l j) 1 || eqb (classOf l j) 2)
+          (and-r (not (eqb j i)) (eqb (pin l j) (pin l i) && (eqb (classOf l j) 1 || eqb (classOf l j) 2)) t)) in
           let two : 2 ≤ given l (pin l i) = r .twice i j h g (λ q. eqb-false j i apart (sym q)) (sym (eqb-true (pin l j) (pin l i) same)) lo hi in
           absurd (omega arith)
 
