@@ -13,3 +13,4 @@ pub mod Acts
 pub mod Unrolled
 pub mod Sharing
 pub mod Texts
+pub mod Told
