@@ -14,3 +14,4 @@ pub mod Unrolled
 pub mod Sharing
 pub mod Texts
 pub mod Told
+pub mod Checked
