@@ -15,3 +15,4 @@ pub mod Sharing
 pub mod Texts
 pub mod Told
 pub mod Checked
+pub mod Refusals
