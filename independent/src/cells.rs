@@ -116,17 +116,21 @@ pub fn fit_lines(cells: &[Fitted]) -> Vec<u8> {
     lines
 }
 
-/// The verdict on a product of what an OUT pin shows (a registered one: shows next). Numbers too
-/// large to hold are given as None.
-pub fn ask(design: &Design, pin: Option<u64>, number: Option<u64>) -> Judged<Verdict> {
-    let Some(output) = design.outputs.iter().find(|o| Some(o.pin as u64) == pin) else {
-        return refuse(14, 0);
-    };
+/// The verdicts on all products of what an OUT pin shows (a registered one: shows next).
+pub fn verdicts_on(output: &Output) -> Vec<Verdict> {
     let table: Vec<bool> = match output.form {
         Form::Registered { inverted: true } => output.table.iter().map(|v| !v).collect(),
         _ => output.table.clone(),
     };
-    let all = verdicts(&table, output.pins.len());
+    verdicts(&table, output.pins.len())
+}
+
+/// The verdict on one product. Numbers too large to hold are given as None.
+pub fn ask(design: &Design, pin: Option<u64>, number: Option<u64>) -> Judged<Verdict> {
+    let Some(output) = design.outputs.iter().find(|o| Some(o.pin as u64) == pin) else {
+        return refuse(14, 0);
+    };
+    let all = verdicts_on(output);
     match number {
         Some(number) if number < all.len() as u64 => Ok(all[number as usize]),
         _ => refuse(14, 0),

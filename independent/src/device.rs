@@ -83,10 +83,6 @@ fn reads(row: &[u8], pair: usize) -> bool {
 
 /// Digits as a map: fuses 0 and 1, as many as the device has.
 pub fn map_of(digits: &[u8]) -> Judged<Vec<u8>> {
-    let digits = match digits {
-        [rest @ .., b'\r', b'\n'] | [rest @ .., b'\n'] => rest,
-        all => all,
-    };
     if digits.len() != FUSES || digits.iter().any(|d| !matches!(d, b'0' | b'1')) {
         return refuse(31, 0);
     }

@@ -8,6 +8,8 @@ mod file;
 mod grammar;
 mod make;
 #[cfg(test)]
+mod marked;
+#[cfg(test)]
 mod simulation;
 mod sums;
 mod tables;
@@ -17,13 +19,17 @@ mod unroll;
 mod vectors;
 mod words;
 
+use std::hint::black_box;
 use std::io::{self, Read, Write};
+use std::num::NonZeroU32;
 use std::process::ExitCode;
+use std::time::Instant;
 
 const USAGE: &str = "usage: independent compile | fit | ask PIN NUMBER | read | write | model | table | vectors
        independent make device|text|tables|all SEED COUNT
        independent diff RECORDS ANSWERS ANSWERS
-       independent count RECORDS";
+       independent count RECORDS
+       independent bench compile|read FILE ROUNDS";
 
 fn input() -> Result<Vec<u8>, String> {
     let mut bytes = Vec::new();
@@ -33,6 +39,15 @@ fn input() -> Result<Vec<u8>, String> {
 
 fn content(path: &str) -> Result<Vec<u8>, String> {
     std::fs::read(path).map_err(|e| format!("{path}: {e}"))
+}
+
+/// How long a call takes, the mean of some rounds.
+fn nanoseconds(run: fn(&[u8]) -> Vec<u8>, bytes: &[u8], rounds: NonZeroU32) -> u128 {
+    let start = Instant::now();
+    for _ in 0..rounds.get() {
+        black_box(run(black_box(bytes)));
+    }
+    start.elapsed().as_nanos() / u128::from(rounds.get())
 }
 
 /// What to print, and whether all is well.
@@ -68,6 +83,15 @@ fn run(words: &[&str]) -> Result<(Vec<u8>, bool), String> {
             let (mut report, differing) = vectors::compare(&records, &content(left)?, &content(right)?);
             report += &format!("{} cases, {} differences\n", records.len(), differing);
             return Ok((report.into_bytes(), differing == 0));
+        }
+        ["bench", verb, path, rounds] => {
+            let run = match *verb {
+                "compile" => vectors::compile,
+                "read" => vectors::read_file,
+                _ => return Err(USAGE.to_string()),
+            };
+            let rounds = rounds.parse::<NonZeroU32>().map_err(|_| USAGE)?;
+            format!("{}\n", nanoseconds(run, &content(path)?, rounds)).into_bytes()
         }
         ["count", records] => make::census(&vectors::records_of(&content(records)?)?)?.into_bytes(),
         _ => return Err(USAGE.to_string()),

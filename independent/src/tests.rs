@@ -6,11 +6,14 @@ use crate::device::{self, cell_of, judge_map, map_of, model, CELLS, COLUMNS, FUS
 use crate::file;
 use crate::grammar::Class;
 use crate::make::files::{faulty_files, summed};
-use crate::make::fixed::{cases, wide, Known, EXAMPLE, EXAMPLE_FILE};
-use crate::make::{make, refusal_number, texts, Chance};
+use crate::make::fixed::{cases, wide, Case, Known, ADDER, BARREL, COUNTER, EXAMPLE, EXAMPLE_FILE};
+use crate::make::maps::{line_ends, model_record, write_record};
+use crate::make::texts::question;
+use crate::make::{census, make, readings, refusal_number, texts, Chance};
 use crate::simulation::Simulation;
 use crate::sums::{primes, product_of, verdicts, Verdict};
 use crate::vectors::{self, Record};
+use std::collections::HashMap;
 
 fn said(bytes: Vec<u8>) -> String {
     String::from_utf8_lossy(&bytes).into_owned()
@@ -34,8 +37,43 @@ fn the_example_is_244_bytes_as_given() {
 
 #[test]
 fn every_known_case_gives_its_answer() {
+    give_their_answers(cases());
+}
+
+#[test]
+fn a_cr_counts_unless_an_lf_follows_it_directly() {
+    let all = line_ends();
+    for verb in ["model", "write"] {
+        assert!(all.iter().any(|case| case.record.call == verb));
+    }
+    give_their_answers(all);
+}
+
+#[test]
+fn made_records_have_every_end_of_line() {
+    let mut chance = Chance::new(17);
+    let inputs: Vec<String> = (0..600).map(|_| said(model_record(&mut chance).payload)).collect();
+    let some = |has: &dyn Fn(&str) -> bool| inputs.iter().any(|input| has(input));
+    let map_line = |input: &str| input.split_inclusive('\n').next().unwrap_or("").to_string();
+    let calls = |input: &str| input[map_line(input).len()..].to_string();
+    let within = |line: &str| line.trim_end_matches(['\r', '\n']).contains('\r');
+    assert!(some(&|i| map_line(i).ends_with("1\r\n") && calls(i).ends_with("0\n")), "on the map's line alone");
+    assert!(some(&|i| calls(i).contains("0\r\n") && calls(i).contains("0\n")), "on some lines");
+    assert!(some(&|i| i.ends_with("0\r") || i.ends_with("1\r")), "a CR alone at the end");
+    assert!(some(&|i| i.ends_with("\n\r")), "a CR alone behind the last LF");
+    assert!(some(&|i| calls(i).lines().any(within)), "a CR inside a line");
+    assert!(some(&|i| map_line(i).ends_with("\r\r\n")), "CR CR LF behind the map");
+    assert!(some(&|i| calls(i).contains("\r\r\n")), "CR CR LF behind a call");
+    let digits: Vec<Vec<u8>> = (0..600).map(|_| write_record(&mut chance).payload).collect();
+    for end in ["0\n", "0\r\n", "0\r", "0\r\r\n", "0\n\r", "0\r\n\r\n"] {
+        assert!(digits.iter().any(|d| d.len() > FUSES && d.ends_with(end.as_bytes())), "{end:?}");
+    }
+    assert!(digits.iter().any(|d| d.len() > FUSES && d[..FUSES].contains(&b'\r')));
+}
+
+fn give_their_answers(cases: Vec<Case>) {
     let mut wrong = Vec::new();
-    for case in cases() {
+    for case in cases {
         let answer = case.record.answer().unwrap();
         let right = match &case.known {
             Known::Anything => true,
@@ -53,7 +91,7 @@ fn every_known_case_gives_its_answer() {
 }
 
 /// What y shows, from power-up, at each of some clocks with all inputs at the given values.
-fn shows(text: &str, inputs: &[(usize, bool)], clocks: usize) -> Vec<bool> {
+pub fn shows(text: &str, inputs: &[(usize, bool)], clocks: usize) -> Vec<bool> {
     let design = design_of(text.as_bytes()).unwrap();
     let map = map_of_cells(&design.cells);
     let pin = design.outputs[0].pin;
@@ -81,6 +119,44 @@ fn marked_examples_of_values() {
     assert_eq!(shows(EXAMPLE, &[(2, true)], 4), [false, true, false, true]);
     assert_eq!(shows(&wide(2, 23, "~REG(b, a)"), &[(2, true), (3, false)], 3), [true, true, true]);
     assert_eq!(shows(&wide(2, 23, "~REG(b, a)"), &[(2, true), (3, true)], 3), [true, false, false]);
+}
+
+/// The number that some pins make, the first its lowest bit.
+fn number_on(values: &[bool; PINS], pins: &[usize]) -> usize {
+    pins.iter().enumerate().map(|(i, pin)| usize::from(values[pin - 1]) << i).sum()
+}
+
+#[test]
+fn the_examples_do_what_they_say() {
+    let map = |text: &str| file::read(&vectors::compile(text.as_bytes())).unwrap();
+    let give = |pins: &[usize], number: usize| {
+        let mut values = [0; PINS];
+        for (i, pin) in pins.iter().enumerate() {
+            values[pin - 1] = (number >> i & 1) as u8;
+        }
+        values
+    };
+    let adder = map(ADDER);
+    for given in 0..32 {
+        let answer = model(&adder, &[0; 10], &give(&[2, 3, 4, 5, 6], given)).unwrap();
+        assert_eq!(number_on(&answer.values, &[23, 19, 22]), given % 4 + given / 4 % 4 + given / 16);
+    }
+    let barrel = map(BARREL);
+    for given in 0..64 {
+        let answer = model(&barrel, &[0; 10], &give(&[2, 3, 4, 5, 6, 7], given)).unwrap();
+        let (turns, data) = (given % 4, given / 4);
+        assert_eq!(number_on(&answer.values, &[22, 21, 20, 19]), (data >> turns | data << (4 - turns)) % 16);
+    }
+    let counter = map(COUNTER);
+    let mut bits = [0; 10];
+    let mut count = 0;
+    for clock in 0..600 {
+        let on = clock % 7 != 3;
+        let answer = model(&counter, &bits, &give(&[2], usize::from(on))).unwrap();
+        assert_eq!(number_on(&answer.values, &[23, 22, 21, 20, 19, 18, 17, 16]), count % 256);
+        count += usize::from(on);
+        bits = answer.registers.map(u8::from);
+    }
 }
 
 fn primes_of(pins: usize, f: impl Fn(usize) -> bool) -> usize {
@@ -434,20 +510,89 @@ fn makers_repeat_themselves_and_reach_every_number() {
     for kind in ["text", "device", "all", "tables"] {
         assert_eq!(make(kind, 4, 60), make(kind, 4, 60));
     }
-    let reached = |kind: &str| {
-        let records = vectors::records_of(&make(kind, 21, 1_500).unwrap()).unwrap();
-        let mut numbers = std::collections::BTreeSet::new();
-        for record in records {
-            for line in record.answer().unwrap().split_inclusive(|b| *b == b'\n') {
-                numbers.extend(refusal_number(line));
+    for (kind, seed, count) in [("all", 1, 10_000), ("text", 1, 3_500), ("device", 1, 3_000)] {
+        let records = vectors::records_of(&make(kind, seed, count).unwrap()).unwrap();
+        assert_eq!(records.len(), count);
+        let census = census(&records).unwrap();
+        let mut wanted = Vec::new();
+        if kind != "device" {
+            for verb in ["compile", "fit", "ask"] {
+                wanted.extend((1..=12).map(|n| format!("{verb} {n} ")));
+                wanted.push(format!("{verb} accepted "));
+            }
+            wanted.push("ask 14 ".to_string());
+        }
+        if kind != "text" {
+            wanted.extend([20, 21, 22, 23, 24].map(|n| format!("read {n} ")));
+            wanted.extend([30, 31, 32].map(|n| format!("model {n} ")));
+            wanted.extend(["read accepted ", "write accepted ", "write 31 ", "model accepted "].map(str::to_string));
+        }
+        for start in wanted {
+            assert!(census.lines().any(|line| line.starts_with(&start)), "{kind}: {start}\n{census}");
+        }
+    }
+}
+
+#[test]
+fn every_text_is_put_to_every_verb() {
+    let records = vectors::records_of(&make("text", 1, 3_500).unwrap()).unwrap();
+    let mut calls: HashMap<&[u8], Vec<&str>> = HashMap::new();
+    for record in &records {
+        calls.entry(&record.payload).or_default().push(&record.call);
+    }
+    let last = &records[records.len() - 1].payload;
+    for (text, calls) in calls.iter().filter(|(text, _)| *text != last) {
+        for verb in ["compile", "fit", "ask"] {
+            assert!(calls.iter().any(|call| call.starts_with(verb)), "{verb} {}", String::from_utf8_lossy(text));
+        }
+    }
+    // A refused text is refused alike by all of them.
+    for case in cases() {
+        if let Known::Refused { number, place } = case.known {
+            for call in ["compile", "fit", "ask 23 0", "ask 99 99999999999999999999"] {
+                let answer = Record::new(call, case.record.payload.clone()).answer().unwrap();
+                assert_eq!(said(answer), refused(number, place));
             }
         }
-        numbers
-    };
-    let texts = reached("text");
-    assert!((1..=12).chain([14]).all(|n| texts.contains(&n)), "{texts:?}");
-    let devices = reached("device");
-    assert!([20, 21, 22, 23, 24, 30, 31, 32].iter().all(|n| devices.contains(n)), "{devices:?}");
+    }
+}
+
+#[test]
+fn questions_are_about_all_sorts_of_pins_and_numbers() {
+    let design = design_of(wide(3, 19, "a*b + ~a*c").as_bytes()).unwrap();
+    let mut chance = Chance::new(1);
+    let asked: Vec<(String, String)> = (0..3_000)
+        .map(|_| {
+            let call = question(&mut chance, Some(&design));
+            let (pin, number) = call.strip_prefix("ask ").unwrap().split_once(' ').unwrap();
+            (pin.to_string(), number.to_string())
+        })
+        .collect();
+    for pin in ["19", "0", "1", "12", "24", "25", "18446744073709551635"] {
+        assert!(asked.iter().any(|(p, _)| p == pin), "pin {pin}");
+    }
+    for number in 0..=30 {
+        assert!(asked.iter().any(|(p, n)| p == "19" && *n == number.to_string()), "number {number}");
+    }
+    assert!(asked.iter().any(|(p, n)| p == "19" && n.len() > 20 && n.parse::<u64>().is_err()));
+    assert!(asked.iter().any(|(p, n)| p == "19" && n.starts_with("184467440737095516")));
+    assert!(question(&mut chance, None).starts_with("ask "));
+}
+
+#[test]
+fn every_reading_has_a_case_that_comes_first() {
+    let texts = readings::texts();
+    let devices = readings::devices();
+    for point in (1..=46).chain([55]) {
+        assert!(texts.iter().chain(&devices).any(|(of, _)| *of == point), "point {point}");
+    }
+    for (kind, points) in [("text", &texts), ("device", &devices)] {
+        let first = vectors::records_of(&make(kind, 1, 2 + 4 * points.len()).unwrap()).unwrap();
+        for (point, case) in points {
+            assert!(first.iter().any(|r| r.bytes() == case.record.bytes()), "point {point}: {}", said(case.record.bytes()));
+        }
+    }
+    give_their_answers(texts.into_iter().chain(devices).map(|(_, case)| case).collect());
 }
 
 #[test]
@@ -466,4 +611,17 @@ fn chains_of_names_are_valued_once_each() {
                 FOR i := 1 .. 27 DO w.i := w[i-1] + w[i-1] END; y := w.27 END T.";
     assert!(circuit_of(text.as_bytes()).is_ok());
     assert_eq!(said(vectors::fit(text.as_bytes())), "23 C H 1 1\n");
+}
+
+#[test]
+fn bench_prints_one_number() {
+    let file = concat!(env!("CARGO_MANIFEST_DIR"), "/README.md");
+    for verb in ["compile", "read"] {
+        let (printed, well) = crate::run(&["bench", verb, file, "3"]).unwrap();
+        let line = said(printed);
+        assert!(well && line.ends_with('\n') && line.trim_end().parse::<u64>().is_ok(), "{line}");
+    }
+    for wrong in [["bench", "compile", file, "0"], ["bench", "fit", file, "3"], ["bench", "read", "nowhere", "3"]] {
+        assert!(crate::run(&wrong).is_err());
+    }
 }

@@ -38,32 +38,32 @@ pub fn read_file(bytes: &[u8]) -> Vec<u8> {
     }))
 }
 
-pub fn write_file(digits: &[u8]) -> Vec<u8> {
-    printed(map_of(digits).map(|map| file::write(&map)))
+/// What a line says: all in front of its LF, and of a CR directly before that. Where no LF ends the
+/// bytes, all of them.
+fn said_by(line: &[u8]) -> &[u8] {
+    match line {
+        [said @ .., b'\r', b'\n'] | [said @ .., b'\n'] => said,
+        unended => unended,
+    }
 }
 
-/// The map's digits on the first line, then a line for each call of the model.
+pub fn write_file(digits: &[u8]) -> Vec<u8> {
+    printed(map_of(said_by(digits)).map(|map| file::write(&map)))
+}
+
+/// The map's digits on the first line, then a line for each call of the model. The last line may
+/// lack its LF; behind an LF at the very end no further line begins.
 pub fn model_lines(input: &[u8]) -> Vec<u8> {
-    let mut lines = input.split(|b| *b == b'\n').peekable();
-    let first = lines.next().unwrap_or(b"");
-    let map = map_of(bare(first, lines.peek().is_some()));
+    let mut lines = input.split_inclusive(|byte| *byte == b'\n').map(said_by);
+    let map = map_of(lines.next().unwrap_or_default());
     let mut answers = Vec::new();
-    while let Some(line) = lines.next() {
-        if line.is_empty() && lines.peek().is_none() {
-            break;
-        }
-        let answer = match &map {
-            Ok(map) => model_line(map, bare(line, lines.peek().is_some())),
+    for line in lines {
+        answers.extend(printed(match &map {
+            Ok(map) => model_line(map, line),
             Err(refusal) => Err(*refusal),
-        };
-        answers.extend(printed(answer));
+        }));
     }
     answers
-}
-
-/// A line that has its LF may have a CR before it.
-fn bare(line: &[u8], ended: bool) -> &[u8] {
-    line.strip_suffix(b"\r").filter(|_| ended).unwrap_or(line)
 }
 
 fn model_line(map: &[u8], line: &[u8]) -> Judged<Vec<u8>> {

@@ -1,4 +1,7 @@
 pub mod Accepted
+pub mod Demand1
 pub mod Demand2
 pub mod Demand3
+pub mod Fronts
+pub mod Example
 pub mod Fakes

@@ -1,5 +1,8 @@
 //! Texts with known answers: each limit, each rule that has an edge, and the marked examples.
 
+use super::texts::question;
+use super::{readings, Chance};
+use crate::cells::design_of;
 use crate::vectors::Record;
 
 /// What a text is known to give.
@@ -20,7 +23,7 @@ pub struct Case {
 }
 
 /// A text with `@` in front of the word at fault, and the refusal's number; 0 for none.
-fn case(number: u32, marked: &str) -> Case {
+pub fn case(number: u32, marked: &str) -> Case {
     let (text, known) = match (number, marked.find('@')) {
         (0, _) => (marked.to_string(), Known::Accepted),
         (_, Some(place)) => (marked.replacen('@', "", 1), Known::Refused { number, place }),
@@ -29,24 +32,28 @@ fn case(number: u32, marked: &str) -> Case {
     Case { record: Record::new("compile", text), known }
 }
 
-fn exactly(call: &str, text: &str, answer: &str) -> Case {
-    Case { record: Record::new(call, text), known: Known::Exactly(answer.to_string()) }
+pub fn exactly(call: &str, text: &str, answer: &str) -> Case {
+    answered(call, text.as_bytes(), answer)
+}
+
+pub fn answered(call: &str, bytes: &[u8], answer: &str) -> Case {
+    Case { record: Record::new(call, bytes), known: Known::Exactly(answer.to_string()) }
 }
 
 /// A refusal where a piece of the text first stands.
-fn refused_at(call: &str, text: &str, piece: &str, number: u32) -> Case {
+pub fn refused_at(call: &str, text: &str, piece: &str, number: u32) -> Case {
     let place = text.find(piece).unwrap_or(0);
     Case { record: Record::new(call, text), known: Known::Refused { number, place } }
 }
 
 /// One input `a` on pin 2, one output `y` on pin 23, and an array `x` of two on pins 3 and 4.
-fn around(statements: &str) -> String {
+pub fn around(statements: &str) -> String {
     format!(
         "MODULE T; CONST N := 2; IN a: BIT; x: [N] BIT; OUT y: BIT; BEGIN a::2; x::[3; 4]; y::23; {statements} END T."
     )
 }
 
-fn equation(right: &str) -> String {
+pub fn equation(right: &str) -> String {
     around(&format!("y := {right}"))
 }
 
@@ -68,7 +75,7 @@ pub fn input_name(i: usize) -> String {
     ((b'a' + i as u8) as char).to_string()
 }
 
-fn joined(inputs: usize, operator: &str) -> String {
+pub fn joined(inputs: usize, operator: &str) -> String {
     (0..inputs).map(input_name).collect::<Vec<_>>().join(operator)
 }
 
@@ -80,11 +87,18 @@ L0088 11010111111111111111111111111111111111111111*\r\n\
 L0132 11101011111111111111111111111111111111111111*\r\n\
 L5808 10111111111111111111*\r\nC1255*\r\n\u{3}2C8F";
 
+pub const ADDER: &str = include_str!("../../../examples/adder.lola");
+pub const BARREL: &str = include_str!("../../../examples/barrel.lola");
+pub const COUNTER: &str = include_str!("../../../examples/counter.lola");
+const SHEET: &str = include_str!("../../../examples/sheet.lola");
+
 pub fn cases() -> Vec<Case> {
     let mut all = vec![
         exactly("compile", EXAMPLE, EXAMPLE_FILE),
         exactly("fit", EXAMPLE, "23 R H 2 4\n"),
     ];
+    all.extend(readings::texts().into_iter().map(|(_, case)| case));
+    all.extend(examples());
     all.extend(words());
     all.extend(grammar());
     all.extend(kinds_and_declarations());
@@ -93,6 +107,34 @@ pub fn cases() -> Vec<Case> {
     all.extend(outputs_and_questions());
     all.extend(limits());
     all.extend(heavy());
+    all
+}
+
+/// The texts that are handed out: three that pass, and a sheet with a fault.
+fn examples() -> Vec<Case> {
+    vec![
+        exactly("fit", ADDER, "19 C H 12 48\n22 C H 7 20\n23 C H 4 12\n"),
+        exactly("fit", BARREL, "19 C H 9 28\n20 C H 9 28\n21 C H 9 28\n22 C H 9 28\n"),
+        exactly(
+            "fit",
+            COUNTER,
+            "16 R H 9 25\n17 R H 8 22\n18 R H 7 19\n19 R H 6 16\n20 R H 5 13\n21 R H 4 10\n22 R H 3 7\n23 R H 2 4\n",
+        ),
+        refused_at("fit", SHEET, ".9", 5),
+    ]
+}
+
+/// Every text with a known answer: the call of which it is known, and the other verbs.
+pub fn records() -> Vec<Record> {
+    let mut all = Vec::new();
+    for (i, Case { record, .. }) in cases().into_iter().enumerate() {
+        let mut calls = vec![record.call.clone(), "compile".to_string(), "fit".to_string()];
+        if !record.call.starts_with("ask") {
+            let design = design_of(&record.payload).ok();
+            calls.push(question(&mut Chance::new(i as u64), design.as_ref()));
+        }
+        all.extend(calls.iter().map(|call| Record::new(call, record.payload.clone())));
+    }
     all
 }
 
@@ -214,7 +256,7 @@ fn constants(right: &str) -> String {
     format!("MODULE T; CONST K := 4; N := {right}; END T.")
 }
 
-fn length(inside: &str) -> String {
+pub fn length(inside: &str) -> String {
     format!("MODULE T; CONST K := 2; IN a: BIT; x: [2] BIT; VAR v: [{inside}] BIT; END T.")
 }
 
@@ -390,6 +432,11 @@ fn over_all_names() -> Vec<Case> {
     ]
 }
 
+/// Eleven inputs, y on pin 20 and z on pin 23.
+pub fn two_outs(first: &str, second: &str) -> String {
+    wide(11, 20, "a").replace("OUT y: BIT", "OUT y, z: BIT").replace("y := a END", &format!("z::23; z := {second}; y := {first} END"))
+}
+
 fn outputs_and_questions() -> Vec<Case> {
     let register = "MODULE T; IN a: BIT; OUT y: BIT; BEGIN a::2; y::23; y := ~REG(a) END T.";
     let keeping = "MODULE T; IN a: BIT; OUT y: BIT; BEGIN a::2; y::23; y := REG('1, a) END T.";
@@ -440,9 +487,6 @@ fn outputs_and_questions() -> Vec<Case> {
         exactly("fit", &wide(2, 23, "REG(a, b)"), "23 R H 3 6\n"),
     ];
     // In the order of declaration, 11 and 12 of one OUT before those of the next.
-    let two_outs = |first: &str, second: &str| {
-        wide(11, 20, "a").replace("OUT y: BIT", "OUT y, z: BIT").replace("y := a END", &format!("z::23; z := {second}; y := {first} END"))
-    };
     let eleven = joined(11, "*");
     let parity = joined(5, "-");
     all.push(refused_at("fit", &two_outs(&parity, &eleven), "y, z: BIT", 12));
@@ -465,6 +509,11 @@ fn outputs_and_questions() -> Vec<Case> {
 
 fn repeated(piece: &str, count: usize) -> String {
     piece.repeat(count)
+}
+
+/// So many operators, and 2n + 1 tree nodes.
+pub fn chain(operators: usize) -> String {
+    format!("a{}", repeated("+a", operators))
 }
 
 fn limits() -> Vec<Case> {
@@ -533,8 +582,7 @@ fn limits() -> Vec<Case> {
     all.push(case(10, &around("FOR i := 1 .. 2046 DO x :: [3; 4] END; y := a").replace("x: [N]", "@x: [N]")));
     all.push(case(6, &around("FOR i := 1 .. 2046 DO x :: [3; 4] END; y := a; @x :: q")));
 
-    // Tree nodes: a chain of n operators has 2n + 1.
-    let chain = |operators: usize| format!("a{}", repeated("+a", operators));
+    // Tree nodes.
     all.push(case(0, &equation(&chain(1023))));
     all.push(case(0, &equation(&format!("~{}", chain(1023)))));
     all.push(case(6, &equation(&format!("{}@+a", chain(1023)))));

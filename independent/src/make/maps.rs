@@ -1,8 +1,10 @@
 //! Maps: compiled ones, sparse ones that the model takes, and ones with a single thing wrong.
 
+use super::fixed::{exactly, Case};
 use super::{texts, Chance};
 use crate::cells::{design_of, map_of_cells};
 use crate::device::*;
+use crate::file;
 use crate::vectors::Record;
 
 pub fn compiled(chance: &mut Chance) -> Vec<u8> {
@@ -159,6 +161,8 @@ pub fn write_record(chance: &mut Chance) -> Record {
         0 => payload.extend(b"\n"),
         1 => payload.extend(b"\r\n"),
         2 if payload.len() < 100 => payload.extend(b"\n\n"),
+        3 if chance.once_in(3) => payload.extend(chance.word(&["\r", "\r\r\n", "\n\r", "\r\n\r\n"]).bytes()),
+        4 if chance.once_in(6) => payload.insert(chance.below(payload.len() + 1), b'\r'),
         _ => {}
     }
     Record::new("write", payload)
@@ -209,15 +213,104 @@ pub fn model_record(chance: &mut Chance) -> Record {
         _ => any_map(chance),
     };
     let mut payload = if chance.once_in(12) { no_map(chance) } else { digits(&map) };
-    payload.push(b'\n');
+    // One line in so many ends in CR LF: none, all, or some.
+    let returns = *chance.pick(&[None, None, None, Some(1), Some(2), Some(3)]);
+    let end = |chance: &mut Chance, payload: &mut Vec<u8>| {
+        if returns.is_some_and(|many| chance.once_in(many)) {
+            payload.push(b'\r');
+        }
+        payload.push(b'\n');
+    };
+    end(chance, &mut payload);
     let lines = if chance.once_in(4) { chance.within(7, 16) } else { chance.within(1, 6) };
     for i in 0..lines {
         payload.extend(call(chance, &map));
         if i + 1 < lines || chance.below(4) > 0 {
-            payload.push(b'\n');
+            end(chance, &mut payload);
         }
     }
+    if chance.once_in(8) {
+        // A CR more: at the very end, in front of a line's end, or anywhere behind the map's digits.
+        let ends: Vec<usize> = (0..payload.len()).filter(|at| matches!(payload[*at], b'\r' | b'\n')).collect();
+        let at = match chance.below(3) {
+            0 => payload.len(),
+            1 => *chance.pick(&ends),
+            _ => chance.within(ends[0], payload.len()),
+        };
+        payload.insert(at, b'\r');
+    }
     Record::new("model", payload)
+}
+
+/// Ends of lines: one LF and a CR directly before it are no part of a line, every other CR is.
+pub fn line_ends() -> Vec<Case> {
+    let unused = map_of_cells(&[]);
+    let map = String::from_utf8_lossy(&digits(&unused)).into_owned();
+    let (start, rest) = map.split_at(100);
+    let quiet = format!("{} {}", "0".repeat(10), "0".repeat(PINS));
+    let (bits, pins) = quiet.split_at(10);
+    let answer = format!("{} {} {}\n", "0".repeat(PINS), "0".repeat(PINS), "0".repeat(10));
+    let model = |input: String, answers: &[&str]| {
+        let lines: String = answers.iter().map(|a| if a.is_empty() { answer.clone() } else { format!("{a} 0\n") }).collect();
+        exactly("model", &input, &lines)
+    };
+    let mut reset = map.clone();
+    reset.replace_range(..1, "1");
+    let mut all = vec![
+        // CR LF on some lines, on all, on the map's line.
+        model(format!("{map}\n{quiet}\r\n{quiet}\n{quiet}\r\n"), &["", "", ""]),
+        model(format!("{map}\r\n{quiet}\n{quiet}\n"), &["", ""]),
+        model(format!("{map}\r\n{quiet}\r\n{quiet}\r\n"), &["", ""]),
+        model(format!("{map}\r\n{quiet}\r\n{quiet}"), &["", ""]),
+        model(format!("{reset}\r\n{quiet}\r\nx\r\n\r\n"), &["30", "30", "30"]),
+        model(format!("{start}\r\n{quiet}\r\nx\r\n\r\n"), &["31", "31", "31"]),
+        // A line of nothing but its end is a line.
+        model(format!("{map}\r\n\r\n{quiet}\r\n\n"), &["32", "", "32"]),
+        model(format!("{map}\n{}\r\n", &quiet[1..]), &["32"]),
+        // A CR alone at the end of the input.
+        model(format!("{map}\n{quiet}\r"), &["32"]),
+        model(format!("{map}\r\n{quiet}\r\n\r"), &["", "32"]),
+        model(format!("{map}\n{}\r", &quiet[1..]), &["32"]),
+        model(format!("{map}\r"), &[]),
+        // A CR in the middle.
+        model(format!("{start}\r{rest}\n{quiet}\n"), &["31"]),
+        model(format!("{start}\r{}\n{quiet}\n", &rest[1..]), &["31"]),
+        model(format!("{map}\r{quiet}\n{quiet}\n"), &["31"]),
+        model(format!("{map}\n{bits}\r{pins}\n{bits}\r{}\n{quiet}\n", &pins[1..]), &["32", "32", ""]),
+        model(format!("{map}\n\r{quiet}\n{quiet}\r{quiet}\n{quiet}\n"), &["32", "32", ""]),
+        // CR CR LF: one of the two stays.
+        model(format!("{map}\r\r\n{quiet}\n"), &["31"]),
+        model(format!("{}\r\r\n{quiet}\n", &map[1..]), &["31"]),
+        model(format!("{map}\n{quiet}\r\r\n{quiet}\r\n"), &["32", ""]),
+        model(format!("{map}\n{}\r\r\n\r\r\n", &quiet[1..]), &["32", "32"]),
+    ];
+    let written = String::from_utf8_lossy(&file::write(&unused)).into_owned();
+    for end in ["", "\n", "\r\n"] {
+        all.push(exactly("write", &format!("{map}{end}"), &written));
+    }
+    let less = &map[1..];
+    for wrong in [
+        format!("{map}\r"),
+        format!("{map}\r\r\n"),
+        format!("{map}\n\r"),
+        format!("{map}\n\n"),
+        format!("{map}\r\n\n"),
+        format!("{map}\r\n\r\n"),
+        format!("{start}\r{rest}"),
+        format!("{start}\r{}\r\n", &rest[1..]),
+        format!("{start}\r\n{rest}\r\n"),
+        format!("\r{map}"),
+        format!("\n{map}"),
+        format!("{less}\n"),
+        format!("{less}\r\n"),
+        format!("{less}\r"),
+        format!("{less}\r\r\n"),
+        "\r".to_string(),
+        "\r\n".to_string(),
+    ] {
+        all.push(exactly("write", &wrong, "31 0\n"));
+    }
+    all
 }
 
 /// One map for each reason to refuse it and each that comes close, and one map with every value.

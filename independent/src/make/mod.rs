@@ -4,11 +4,12 @@
 mod batches;
 pub mod files;
 pub mod fixed;
-mod maps;
+pub mod maps;
+pub mod readings;
 pub mod texts;
 
 use crate::vectors::Record;
-use std::collections::BTreeMap;
+use std::collections::{BTreeMap, HashSet};
 
 /// A splitmix64 sequence.
 pub struct Chance {
@@ -67,22 +68,26 @@ pub fn make(kind: &str, seed: u64, count: usize) -> Option<Vec<u8>> {
     let mut records = Vec::new();
     match kind {
         "text" => {
-            records.extend(fixed::cases().into_iter().map(|case| case.record).take(count));
+            records = once_each(fixed::records());
             while records.len() < count {
-                records.push(texts::record(&mut chance));
+                records.extend(texts::records(&mut chance));
             }
         }
         "device" => {
-            records.extend(files::fixed().into_iter().chain(maps::fixed()).take(count));
+            let points = readings::devices().into_iter().map(|(_, case)| case.record);
+            records = once_each(points.chain(files::fixed()).chain(maps::fixed()));
             while records.len() < count {
                 records.push(device_record(&mut chance));
             }
         }
+        // A text makes three or four records.
         "all" => {
-            for _ in 0..count {
-                let record =
-                    if chance.coin() { texts::record(&mut chance) } else { device_record(&mut chance) };
-                records.push(record);
+            while records.len() < count {
+                if chance.once_in(4) {
+                    records.extend(texts::records(&mut chance));
+                } else {
+                    records.push(device_record(&mut chance));
+                }
             }
         }
         "tables" => {
@@ -91,7 +96,14 @@ pub fn make(kind: &str, seed: u64, count: usize) -> Option<Vec<u8>> {
         }
         _ => return None,
     }
+    records.truncate(count);
     Some(records.iter().flat_map(Record::bytes).collect())
+}
+
+/// The same records without those that stand further in front already.
+fn once_each(records: impl IntoIterator<Item = Record>) -> Vec<Record> {
+    let mut seen = HashSet::new();
+    records.into_iter().filter(|record| seen.insert(record.bytes())).collect()
 }
 
 /// Maps are large and files can be small, so most records are files to be read.

@@ -3,8 +3,10 @@
 
 use super::fixed::wide;
 use super::Chance;
-use crate::words::RESERVED;
+use crate::cells::{design_of, verdicts_on, Design};
+use crate::sums::{power_of_three, Verdict};
 use crate::vectors::Record;
+use crate::words::RESERVED;
 
 type Words = Vec<String>;
 
@@ -711,37 +713,64 @@ fn limit_text(chance: &mut Chance) -> String {
     }
 }
 
-pub fn record(chance: &mut Chance) -> Record {
+/// A text, put to every verb that takes texts: once to each, and an accepted one to one more question.
+pub fn records(chance: &mut Chance) -> Vec<Record> {
     let text = text(chance);
-    let call = match chance.below(10) {
-        0..=2 => "compile".to_string(),
-        3..=6 => "fit".to_string(),
-        _ => {
-            let (pin, products) = asked(chance, &text);
-            let pin = if chance.once_in(14) { chance.below(30) } else { pin };
-            let number = match chance.below(20) {
-                0 => format!("{}{}", chance.next(), if chance.coin() { "" } else { "0000000" }),
-                1 => format!("{}", products + chance.below(3)),
-                2 => format!("{}", products - 1),
-                _ => format!("{}", chance.below(products)),
-            };
-            format!("ask {pin} {number}")
-        }
-    };
-    Record::new(&call, text)
+    let design = design_of(&text).ok();
+    let mut calls = vec!["compile".to_string(), "fit".to_string(), question(chance, design.as_ref())];
+    if design.is_some() {
+        calls.push(question(chance, design.as_ref()));
+    }
+    calls.into_iter().map(|call| Record::new(&call, text.clone())).collect()
 }
 
-/// An OUT pin of the text, if it has any, and how many products its pins have.
-fn asked(chance: &mut Chance, text: &[u8]) -> (usize, usize) {
-    let outs: Vec<(usize, usize)> = match crate::cells::design_of(text) {
-        Ok(design) => design.outputs.iter().map(|o| (o.pin, 3usize.pow(o.pins.len() as u32))).collect(),
-        Err(_) => vec![],
+/// A question about a design, or about a text that has none: mostly about an OUT pin and a product
+/// that there is, many of them implicants; sometimes about other pins, and numbers on and past the edge.
+pub fn question(chance: &mut Chance, design: Option<&Design>) -> String {
+    let output = design.filter(|d| !d.outputs.is_empty()).map(|d| chance.pick(&d.outputs));
+    let (pin, products) = match output {
+        Some(output) => (output.pin, power_of_three(output.pins.len())),
+        None => (chance.within(14, 23), 9),
     };
-    if outs.is_empty() { (chance.within(14, 23), 9) } else { *chance.pick(&outs) }
+    // What a number held in too few bits would be taken for.
+    let beyond = |chance: &mut Chance, small: usize| match chance.below(6) {
+        0 => (small as u128 + (1 << 64)).to_string(),
+        1 => (small as u128 + (1 << 32)).to_string(),
+        2 => (small as u128 + (1 << 16)).to_string(),
+        3 => u64::MAX.to_string(),
+        4 => format!("{}{:020}", chance.within(1, 999), chance.next()),
+        _ => format!("{}{small}", "9".repeat(chance.within(20, 60))),
+    };
+    let asked_pin = match chance.below(16) {
+        0 => chance.word(&["0", "1", "2", "12", "13", "24", "25"]).to_string(),
+        1 => chance.below(30).to_string(),
+        2 => match chance.coin() {
+            true => beyond(chance, pin),
+            false => (pin + 256 * chance.within(1, 300)).to_string(),
+        },
+        _ => pin.to_string(),
+    };
+    let number = match chance.below(16) {
+        0 => (products - 1).to_string(),
+        1 => products.to_string(),
+        2 => (products + chance.within(1, 3)).to_string(),
+        3 => {
+            let small = chance.below(products);
+            beyond(chance, small)
+        }
+        4..=9 => {
+            let wanted = if chance.coin() { Verdict::Prime } else { Verdict::Implicant };
+            let all = output.map(verdicts_on).unwrap_or_default();
+            let fitting: Vec<usize> = (0..all.len()).filter(|n| all[*n] == wanted).collect();
+            if fitting.is_empty() { chance.below(products) } else { *chance.pick(&fitting) }.to_string()
+        }
+        _ => chance.below(products).to_string(),
+    };
+    format!("ask {asked_pin} {number}")
 }
 
 pub fn text(chance: &mut Chance) -> Vec<u8> {
-    if chance.once_in(900) {
+    if chance.once_in(250) {
         // Blanks up to the longest text, or past it.
         let mut text = sound(chance);
         text.resize(chance.within(32_766, 32_772), b' ');

@@ -1,0 +1,4 @@
+pub mod Laws
+pub mod Large
+pub mod Once
+pub mod Refusals

@@ -1,0 +1,134 @@
+-- Demand 1, as far as it is not the checker's own: when each call refuses, and what a refusal leaves. That no memory is touched that was not lent, and that
+-- every call ends, holds of every function here, or the checker would not pass it. Assumes nothing.
+use mathlib.Core.Path.{_≡_, refl, sym, ap, _∙_, subst}
+use mathlib.Core.Bool.{Bool, true, false}
+use mathlib.Core.List.{List, []}
+use Prim.Native.Nat.{ℕ}
+use lib.ListN.{length, replicate}
+use Rattle.basics.specs.Choice.{pick}
+use Rattle.fusetext.specs.Outcome.{Outcome, gives, refuses, left}
+use Rattle.texts.specs.Calls.{compiledOf}
+use Rattle.compilecall.specs.declared.Compiled.{Compiled}
+use Rattle.compilecall.specs.declared.Compiled.the-variants.{File as Filed, Refused as NotFiled}
+use Rattle.compilecall.specs.Compiling.{compiledAs, Compiles}
+use Rattle.fitcall.specs.declared.Fitted.{Fitted}
+use Rattle.fitcall.specs.declared.Fitted.the-variants.{Lines, Refused as NotLined}
+use Rattle.fitcall.specs.Fitting.{fittedOf, fittedAs, Fits}
+use Rattle.question.specs.declared.Asked.the-variants.{Refused as Refuses}
+use Rattle.askcall.specs.declared.Graded.the-variants.{Refused as NotGraded}
+use Rattle.askcall.specs.Asking.{gradedOf, Asks}
+use Rattle.fuseread.specs.declared.Reading.{Reading}
+use Rattle.fuseread.specs.declared.Reading.the-variants.{Map, Refused as NotRead}
+use Rattle.fuseread.specs.Reading.{readInto, readingOf, Reads}
+use Rattle.fusewrite.specs.declared.Written.{Written}
+use Rattle.fusewrite.specs.declared.Written.the-variants.{File as Wrote, Refused as NotWritten}
+use Rattle.fusewrite.specs.Writing.{writeOf, writtenOf, Writes}
+use Rattle.gal.specs.Refuse.{noMap, outside, noValues}
+use Rattle.gal.specs.declared.Verdict.{Verdict}
+use Rattle.gal.specs.declared.Verdict.the-variants.{Shown, Refused as NotShown}
+use Rattle.gal.specs.Model.{refusal, answered, modelled}
+
+-- What a refusal with number n at place p means, where the definition says that the call comes to the outcome o: it refuses so by the definition, and the
+-- lent output, or the lent map, holds what it held.
+pub record Refusal (o : Outcome) (n p : ℕ) (before after : List ℕ) : Type 0 where
+  pub because : o ≡ refuses n p
+  pub untouched : after ≡ before
+
+-- ---- an answer tells a refusal's number and place
+
+abbrev without : Outcome → Outcome
+without (gives l) = gives []
+without (refuses n p) = refuses n p
+
+abbrev isRefusal : Outcome → Type 0
+isRefusal (gives l) = ⊥
+isRefusal (refuses n p) = Unit {0}
+
+exact : (o : Outcome) (n p : ℕ) → refuses n p ≡ without o → o ≡ refuses n p
+exact (gives l) n p e = absurd (subst isRefusal e tt)
+exact (refuses k q) n p e = sym e
+
+refusal-of : (o : Outcome) (n p : ℕ) (before after : List ℕ) → refuses n p ≡ without o → after ≡ left o before → Refusal o n p before after
+refusal-of o n p before after e l = record { because = exact o n p e; untouched = l ∙ ap (λ (x : Outcome). left x before) (exact o n p e) }
+
+abbrev ofCompiled : Compiled → Outcome
+ofCompiled (Filed n) = gives []
+ofCompiled (NotFiled n p) = refuses n p
+
+compiled-tells : (o : Outcome) → ofCompiled (compiledAs o) ≡ without o
+compiled-tells (gives l) = refl
+compiled-tells (refuses n p) = refl
+
+abbrev ofFitted : Fitted → Outcome
+ofFitted (Lines n) = gives []
+ofFitted (NotLined n p) = refuses n p
+
+fitted-tells : (o : Outcome) → ofFitted (fittedAs o) ≡ without o
+fitted-tells (gives l) = refl
+fitted-tells (refuses n p) = refl
+
+abbrev ofReading : Reading → Outcome
+ofReading Map = gives []
+ofReading (NotRead n p) = refuses n p
+
+reading-tells : (o : Outcome) → ofReading (readingOf o) ≡ without o
+reading-tells (gives l) = refl
+reading-tells (refuses n p) = refl
+
+abbrev ofWritten : Written → Outcome
+ofWritten (Wrote n) = gives []
+ofWritten (NotWritten n p) = refuses n p
+
+written-tells : (o : Outcome) → ofWritten (writtenOf o) ≡ without o
+written-tells (gives l) = refl
+written-tells (refuses n p) = refl
+
+-- ---- THE THEOREMS, for each call
+
+-- compile and fit: the working room is zeroed too
+pub compile-refuses : (text out room : List ℕ) (n p : ℕ) (x y : List ℕ) → Compiles text out room (NotFiled n p) x y
+    → Refusal (compiledOf text (length out) (length room)) n p out x × (y ≡ replicate (length room) 0)
+compile-refuses text out room n p x y c =
+    let o : Outcome = compiledOf text (length out) (length room) in
+    (refusal-of o n p out x (ap ofCompiled (c .answers) ∙ compiled-tells o) (c .leaves), c .clears)
+
+pub fit-refuses : (text out room : List ℕ) (n p : ℕ) (x y : List ℕ) → Fits text out room (NotLined n p) x y
+    → Refusal (fittedOf text (length out) (length room)) n p out x × (y ≡ replicate (length room) 0)
+fit-refuses text out room n p x y c =
+    let o : Outcome = fittedOf text (length out) (length room) in
+    (refusal-of o n p out x (ap ofFitted (c .answers) ∙ fitted-tells o) (c .leaves), c .clears)
+
+-- ask is lent a working room only
+pub ask-refuses : (text : List ℕ) (pin product : ℕ) (room : List ℕ) (n p : ℕ) (y : List ℕ) → Asks text pin product room (NotGraded n p) y
+    → (gradedOf text pin product (length room) ≡ Refuses n p) × (y ≡ replicate (length room) 0)
+ask-refuses text pin product room n p y c = (sym (c .answers), c .clears)
+
+pub read-refuses : (file map : List ℕ) (n p : ℕ) (x : List ℕ) → Reads file map (NotRead n p) x → Refusal (readInto file (length map)) n p map x
+read-refuses file map n p x c =
+    let o : Outcome = readInto file (length map) in
+    refusal-of o n p map x (ap ofReading (c .answers) ∙ reading-tells o) (c .leaves)
+
+pub write-refuses : (map out : List ℕ) (n p : ℕ) (x : List ℕ) → Writes map out (NotWritten n p) x → Refusal (writeOf map (length out)) n p out x
+write-refuses map out n p x c =
+    let o : Outcome = writeOf map (length out) in
+    refusal-of o n p out x (ap ofWritten (c .answers) ∙ written-tells o) (c .leaves)
+
+-- the model is lent nothing to write to: a refusal is one of 31, 30 and 32, and answers 0 for all pins and bits
+pub model-refuses : (map bits pins : List ℕ) (n p : ℕ) → (modelled map bits pins) .verdict ≡ NotShown n p → modelled map bits pins ≡ refusal n
+unfolding modelled
+model-refuses map bits pins n p e = go (noMap map) (outside map) (noValues map bits pins) e
+  where
+    number : Verdict → ℕ
+    number Shown = 0
+    number (NotShown k q) = k
+
+    isNot : Verdict → Type 0
+    isNot Shown = ⊥
+    isNot (NotShown k q) = Unit {0}
+
+    go : (a b c : Bool) → (pick a (refusal 31) (pick b (refusal 30) (pick c (refusal 32) (answered map bits pins)))) .verdict ≡ NotShown n p
+        → pick a (refusal 31) (pick b (refusal 30) (pick c (refusal 32) (answered map bits pins))) ≡ refusal n
+    go true b c e = ap (λ (v : Verdict). refusal (number v)) e
+    go false true c e = ap (λ (v : Verdict). refusal (number v)) e
+    go false false true e = ap (λ (v : Verdict). refusal (number v)) e
+    go false false false e = absurd (subst isNot (sym e) tt)

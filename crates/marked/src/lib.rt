@@ -1,0 +1,1 @@
+// Theorems only: what the definitions say of the examples that document 01 marks.

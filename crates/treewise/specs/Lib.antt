@@ -1,0 +1,3 @@
+pub mod Unrolled
+pub mod Declared
+pub mod Staged
