@@ -1,29 +1,23 @@
 -- The numbers of refusals of stage 2.
 -- Assumes nothing.
-use mathlib.Core.Path.{_≡_}
-use mathlib.Core.Bool.{Bool, true, false}
+use mathlib.Core.Bool.{Bool, false}
 use mathlib.Core.List.{List}
 use Prim.Native.Nat.{ℕ, zero, suc, _-_, _≤_}
 use native.Mathlib.Omega.{arith}
 use lib.ListN.{length}
 use lib.Dec.{eqb}
-use Rattle.basics.specs.Choice.{pick}
-use Rattle.words.specs.Words.{nextWord}
 use Rattle.names.specs.Names.{spelling, same}
-use Rattle.grammar.specs.Outcome.{Outcome, ok, no, Turn, more, last, onWord, andThen, levels}
+use Rattle.grammar.specs.Outcome.{Outcome, ok, no, more, last, levels}
 use Rattle.grammar.specs.Grammar.{closed, part, named, expression, nested}
 use Rattle.grammar.specs.Trees.{checks}
-use Rattle.grammar.specs.Modules.{Module, must, thenTurn, wordTurn, repeat, upTo, given, numberTurn, numbers, positioned, aimed, simple, statement, statementTurn, statements, looped, ranged, forFrom, forOf, sequence, constantTurn, anotherName, nameTurn, nameList, arrayed, typed, typeOf, listTurn, constants, lists, outAndVar, declarations, begun, headed, sameName, ended, headless, wholeText}
+use Rattle.grammar.specs.Modules.{must, upTo, given, numberTurn, numbers, positioned, aimed, simple, statement, statementTurn, statements, looped, ranged, forFrom, forOf, sequence, constantTurn, anotherName, nameTurn, nameList, arrayed, typed, typeOf, listTurn, constants, lists, outAndVar, declarations, begun, headed, sameName, ended, headless, wholeText}
 use Rattle.grammar.specs.Forms.{blank, checkedText}
 use Rattle.grammar.proofs.Chain.{Near, past-nested}
 use Rattle.grammar.proofs.Turns.{past-number, past-statement, near-forOf, past-constant, past-name, past-list}
-use Rattle.reached.proofs.Told.{Number, Told, ToldT, told-pick, turn-pick, told-word, turn-word, told-closed, told-repeat, told-then, turn-then, far-falls, told-part, told-named, told-expression, told-nested}
+use Rattle.reached.proofs.Told.{two, Told, ToldT, told-pick, turn-pick, told-word, turn-word, told-closed, told-repeat, told-then, turn-then, far-falls, told-part, told-named, told-expression, told-nested}
 
 abbrev One : Type 0
 One = Unit {0}
-
-two : Number 2
-two = (omega arith, omega arith)
 
 module _ (s : List ℕ) where
   inner-told : (d : ℕ) (m : Bool) (o p at : ℕ) (x : One) → Told (nested checks s d m o p at x)

@@ -12,7 +12,6 @@ use borrow.Author.Tests.{eqb-true, eqb-false, ne-eqb, ltb-true, le-leb}
 use Rattle.basics.specs.Choice.{pick}
 use Rattle.integers.specs.Integers.{Answer, held, broken, combined}
 use Rattle.names.specs.Names.{Spelling, Seen, known, unknown, Sought, found, find, Entry, entry, entries, shown, same, spelling, numberOf, lookedUp}
-use Rattle.grammar.specs.Outcome.{ok, no}
 use Rattle.judging.specs.Judging.{Verdict, number, node, fault, Array, base, unfit, Meaning, valued, signal, nothing, meaningOn, meaningOf, markOf, literalOf, logicOf, plainOn, plainOf, openedOn, openedOf, elementOn, elementOf, answered, operatorOf}
 use Rattle.judging.specs.Reading.{State, emitted, done, based, reads}
 use Rattle.readers.specs.Readers.{innerOf, indexOf, expressionOf}

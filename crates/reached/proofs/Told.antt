@@ -1,7 +1,7 @@
--- The numbers of refusals: from 1 to 10 for all that is read of a text. A definition that takes turns refuses with 0 where its turns run out, and they don't: each turn
--- goes forward.
+-- The numbers of refusals: words and expressions refuse with a number from 1 to 10. A definition that takes turns refuses with 0 where its turns run out, and they don't:
+-- each turn goes forward.
 -- Assumes nothing.
-use mathlib.Core.Path.{_≡_, refl, sym, subst}
+use mathlib.Core.Path.{_≡_, refl, subst}
 use mathlib.Core.Bool.{Bool, true, false}
 use mathlib.Core.List.{List}
 use Prim.Native.Nat.{ℕ, zero, suc, _+_, _-_, _<_, _≤_}
@@ -16,7 +16,7 @@ use Rattle.words.specs.declared.Gap.the-variants.{Here, Cut}
 use Rattle.words.specs.declared.Taken.{Taken}
 use Rattle.words.specs.declared.Taken.the-variants.{Word, Refused}
 use Rattle.grammar.specs.Outcome.{Outcome, ok, no, Built, built, bad, Turn, more, last, onWord, andThen, builtAt, afterBuilt}
-use Rattle.grammar.specs.Grammar.{Algebra, isSum, isProduct, indexSort, partSort, closed, turned, turnBuilt, turnWith, turnOn, onTurn, turn, chain, level, part, dotted, bracketed, pointed, named, muxThird, muxSecond, muxed, kept, regged, inverted, factor, term, expression, nested}
+use Rattle.grammar.specs.Grammar.{Algebra, isSum, isProduct, indexSort, partSort, closed, turnBuilt, turnWith, turnOn, onTurn, turn, chain, level, part, dotted, bracketed, pointed, named, muxThird, muxSecond, muxed, kept, regged, inverted, factor, term, expression, nested}
 use Rattle.grammar.specs.Modules.{thenTurn, wordTurn, repeat}
 use Rattle.grammar.proofs.Chain.{Past, PastT, real-sum, real-product, Real, past-turn, past-factor, past-term, past-nested}
 
@@ -34,7 +34,7 @@ word-pick : (b : Bool) (x y : Taken) → ToldW x → ToldW y → ToldW (pick b x
 word-pick true x y p q = p
 word-pick false x y p q = q
 
-two : Number 2
+pub two : Number 2
 two = (omega arith, omega arith)
 
 told-name : (s : List ℕ) (p e : ℕ) → ToldW (name-word s p e)
@@ -106,10 +106,6 @@ module _ {S A : Type 0} where
   pub told-closed : (s : List ℕ) (k : ℕ) (v : A) (at : ℕ) (x : S) → Told (closed s k v at x)
   unfolding closed
   told-closed s k v at x = told-word s at x _ (λ k′ st v′ nx. told-pick (eqb k′ k) (ok v nx x) (no 2 st x) tt two)
-
-  pub turn-turned : (o : Outcome S A) → Told o → ToldT (turned o)
-  turn-turned (ok v e x) h = tt
-  turn-turned (no n p x) h = h
 
   -- turns that go forward don't run out
   module _ (s : List ℕ) (turns : A → ℕ → S → Turn S A) (told : (v : A) (at : ℕ) (x : S) → ToldT (turns v at x))
@@ -191,7 +187,7 @@ module _ {S A B : Type 0} (alg : Algebra S A B)
     unfolding level
     told-level at x = told-then (operand at x) (chain alg s o among operand (suc (length s))) (told at x) (λ v e x. told-chain (suc (length s)) v e x (omega arith))
 
-  pub told-dotted : (o at : ℕ) (x : S) → Told (dotted alg s o at x)
+  told-dotted : (o at : ℕ) (x : S) → Told (dotted alg s o at x)
   unfolding dotted
   told-dotted o at x =
       told-word s at x _ (λ k st v nx.

@@ -37,7 +37,7 @@ added t st n k v m = st ∷ n ∷ k ∷ v ∷ m ∷ t
 abbrev pub behind : ℤ → ℤ
 behind z = z +ℤ pos 1
 
--- ---- signals: a node more, at most 2,048 over the module
+-- ---- signals: a node more, at most 2,048 over the module. (Numbers write none, and are read by the readers' own algebra.)
 
 unfoldable pub emitted : ℕ → ℕ → State → Built State ℤ
 emitted c p x = pick (ltb (x .1) 2048) (built (pos 0) (set (x .0) (x .1) c, x .1 + 1)) (bad 6 p x)
