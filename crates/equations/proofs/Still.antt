@@ -1,5 +1,5 @@
 -- Reading for a number, for a check, or for a signal that is not counted writes nothing: it leaves the room and the count as they were, also where it
--- refuses.
+-- refuses. What it answers is the same whatever they are.
 -- Assumes nothing.
 use mathlib.Core.Path.{_≡_, refl, sym, subst, _∙_}
 use mathlib.Core.Bool.{Bool, true, false}
@@ -20,11 +20,11 @@ abbrev pub Leaves : State → Outcome State ℤ → Type 0
 Leaves x (ok v e y) = y ≡ x
 Leaves x (no n p y) = y ≡ x
 
-module _ (s t : List ℕ) (x₀ : State) where
-  abbrev Kept : State → State → Type 0
-  Kept x y = (x ≡ x₀) × (y ≡ x₀)
+module _ (s t : List ℕ) (x₀ y₀ : State) where
+  abbrev pub Kept : State → State → Type 0
+  Kept x y = (x ≡ x₀) × (y ≡ y₀)
 
-  abbrev Alike : ℤ → ℤ → Type 0
+  abbrev pub Alike : ℤ → ℤ → Type 0
   Alike v w = v ≡ w
 
   abbrev Paired : ℕ × ℕ → ℕ × ℕ → Type 0
@@ -76,8 +76,9 @@ module _ (s t : List ℕ) (x₀ : State) where
       (λ o p i j x y r q g. judged o 7 (markOf o 7 p) p x y (emits-mark o 7 p) g q)
       (λ o p a b a′ b′ x y e f q g. judged o 8 (markOf o 8 p) p x y (emits-mark o 8 p) g q) s
 
-  still-expression : (d o at : ℕ) → Quiet o
-      → RelO Kept Alike (expression (reads s t) s (nested (reads s t) s d) o at x₀) (expression (reads s t) s (nested (reads s t) s d) o at x₀)
+  -- from two states: the same value and end, or the same refusal
+  pub still-expression : (d o at : ℕ) → Quiet o
+      → RelO Kept Alike (expression (reads s t) s (nested (reads s t) s d) o at x₀) (expression (reads s t) s (nested (reads s t) s d) o at y₀)
   still-expression d o at g =
       rel-expression Kept Alike Paired (reads s t) (reads s t) Quiet indexed parted
       (λ o p v x y q g. judged o 0 (literalOf o p v) p x y (emits-literal o 0 p v) g q)
@@ -88,12 +89,13 @@ module _ (s t : List ℕ) (x₀ : State) where
       (λ o p a b c a′ b′ c′ x y e f h q g. judged o 6 (markOf o 6 p) p x y (emits-mark o 6 p) g q)
       (λ o p i j x y r q g. judged o 7 (markOf o 7 p) p x y (emits-mark o 7 p) g q)
       (λ o p a b a′ b′ x y e f q g. judged o 8 (markOf o 8 p) p x y (emits-mark o 8 p) g q) s
-      (nested (reads s t) s d) (nested (reads s t) s d) (still-nested d) o at x₀ x₀ (refl, refl) g
+      (nested (reads s t) s d) (nested (reads s t) s d) (still-nested d) o at x₀ y₀ (refl, refl) g
 
-  leaves : (r : Outcome State ℤ) → RelO Kept Alike r r → Leaves x₀ r
+module _ (s t : List ℕ) (x₀ : State) where
+  leaves : (r : Outcome State ℤ) → RelO (Kept s t x₀ x₀) (Alike s t x₀ x₀) r r → Leaves x₀ r
   leaves (ok v e y) a = a .2 .0
   leaves (no n p y) a = a .2 .0
 
   -- an expression read for a sort other than 2 leaves the room and the count as they were
   pub reads-still : (d o at : ℕ) → eqb o 2 ≡ false → Leaves x₀ (expression (reads s t) s (nested (reads s t) s d) o at x₀)
-  reads-still d o at g = leaves (expression (reads s t) s (nested (reads s t) s d) o at x₀) (still-expression d o at g)
+  reads-still d o at g = leaves (expression (reads s t) s (nested (reads s t) s d) o at x₀) (still-expression s t x₀ x₀ d o at g)

@@ -1,0 +1,2 @@
+pub mod Unbounded
+pub mod Counted
