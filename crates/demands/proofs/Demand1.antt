@@ -3,7 +3,8 @@
 use mathlib.Core.Path.{_≡_, refl, sym, ap, _∙_, subst}
 use mathlib.Core.Bool.{Bool, true, false}
 use mathlib.Core.List.{List, []}
-use Prim.Native.Nat.{ℕ}
+use Prim.Native.Nat.{ℕ, _<_}
+use native.Mathlib.Omega.{arith}
 use lib.ListN.{length, replicate}
 use Rattle.basics.specs.Choice.{pick}
 use Rattle.fusetext.specs.Outcome.{Outcome, gives, refuses, left}
@@ -24,9 +25,7 @@ use Rattle.fusewrite.specs.declared.Written.{Written}
 use Rattle.fusewrite.specs.declared.Written.the-variants.{File as Wrote, Refused as NotWritten}
 use Rattle.fusewrite.specs.Writing.{writeOf, writtenOf, Writes}
 use Rattle.gal.specs.Refuse.{noMap, outside, noValues}
-use Rattle.gal.specs.declared.Verdict.{Verdict}
-use Rattle.gal.specs.declared.Verdict.the-variants.{Shown, Refused as NotShown}
-use Rattle.gal.specs.Model.{refusal, answered, modelled}
+use Rattle.gal.specs.Model.{numberOf, placeOf, refusal, answered, modelled}
 
 -- What a refusal with number n at place p means, where the definition says that the call comes to the outcome o: it refuses so by the definition, and the
 -- lent output, or the lent map, holds what it held.
@@ -113,22 +112,17 @@ write-refuses map out n p x c =
     let o : Outcome = writeOf map (length out) in
     refusal-of o n p out x (ap ofWritten (c .answers) ∙ written-tells o) (c .leaves)
 
--- the model is lent nothing to write to: a refusal is one of 31, 30 and 32, and answers 0 for all pins and bits
-pub model-refuses : (map bits pins : List ℕ) (n p : ℕ) → (modelled map bits pins) .verdict ≡ NotShown n p → modelled map bits pins ≡ refusal n
+-- the model is lent nothing to write to: a refusal, one of 31, 30 and 32, has place 0 and answers 0 for all pins and bits
+pub model-refuses : (map bits pins : List ℕ) → 0 < numberOf ((modelled map bits pins) .verdict)
+    → (modelled map bits pins ≡ refusal (numberOf ((modelled map bits pins) .verdict))) × (placeOf ((modelled map bits pins) .verdict) ≡ 0)
 unfolding modelled
-model-refuses map bits pins n p e = go (noMap map) (outside map) (noValues map bits pins) e
+model-refuses map bits pins h = go (noMap map) (outside map) (noValues map bits pins) h
   where
-    number : Verdict → ℕ
-    number Shown = 0
-    number (NotShown k q) = k
-
-    isNot : Verdict → Type 0
-    isNot Shown = ⊥
-    isNot (NotShown k q) = Unit {0}
-
-    go : (a b c : Bool) → (pick a (refusal 31) (pick b (refusal 30) (pick c (refusal 32) (answered map bits pins)))) .verdict ≡ NotShown n p
-        → pick a (refusal 31) (pick b (refusal 30) (pick c (refusal 32) (answered map bits pins))) ≡ refusal n
-    go true b c e = ap (λ (v : Verdict). refusal (number v)) e
-    go false true c e = ap (λ (v : Verdict). refusal (number v)) e
-    go false false true e = ap (λ (v : Verdict). refusal (number v)) e
-    go false false false e = absurd (subst isNot (sym e) tt)
+    go : (a b c : Bool) → 0 < numberOf ((pick a (refusal 31) (pick b (refusal 30) (pick c (refusal 32) (answered map bits pins)))) .verdict)
+        → (pick a (refusal 31) (pick b (refusal 30) (pick c (refusal 32) (answered map bits pins)))
+        ≡ refusal (numberOf ((pick a (refusal 31) (pick b (refusal 30) (pick c (refusal 32) (answered map bits pins)))) .verdict)))
+        × (placeOf ((pick a (refusal 31) (pick b (refusal 30) (pick c (refusal 32) (answered map bits pins)))) .verdict) ≡ 0)
+    go true b c h = (refl, refl)
+    go false true c h = (refl, refl)
+    go false false true h = (refl, refl)
+    go false false false h = absurd (omega arith)
