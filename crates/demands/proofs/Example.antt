@@ -47,7 +47,7 @@ use Rattle.fusetext.specs.File.{fileOf}
 use Rattle.fusetext.specs.Outcome.{gives, refuses}
 use Rattle.fusetrip.proofs.Example.{exampleMap, exampleFile, example-file}
 use Rattle.texts.specs.Calls.{filed}
-use Rattle.demands.proofs.Fronts.{module-T, parts-T, elements-T, front-T}
+use Rattle.marked.proofs.Fronts.{module-T, parts-T, elements-T, front-T}
 use Rattle.texts.specs.Stages.{unless, fitting as sixth}
 
 -- ---- the complete sum of y, in cell 0

@@ -17,7 +17,7 @@ use Rattle.compilecall.specs.declared.Compiled.the-variants.{Refused}
 use Rattle.compilecall.specs.Compiling.{Compiles}
 use Rattle.compilecall.proofs.Refusals as refusals
 use Rattle.demands.proofs.Demand3.{same-file-same-circuit}
-use Rattle.demands.proofs.Fronts.{module-T, parts-T, elements-T, front-T, module-S, parts-S, elements-S, front-S}
+use Rattle.marked.proofs.Fronts.{module-T, parts-T, elements-T, front-T, module-S, parts-S, elements-S, front-S}
 use Rattle.demands.proofs.Example.{compile-T}
 use Rattle.basics.specs.Below.{listed}
 use Rattle.trees.specs.Layout.{nodesAt, classOf}

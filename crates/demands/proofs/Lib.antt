@@ -2,6 +2,5 @@ pub mod Accepted
 pub mod Demand1
 pub mod Demand2
 pub mod Demand3
-pub mod Fronts
 pub mod Example
 pub mod Fakes

@@ -1,1 +1,3 @@
+pub mod Fronts
+pub mod Few
 pub mod Marked

@@ -16,9 +16,10 @@ use Rattle.readers.specs.Readers.{expressionOf}
 use Rattle.trees.specs.Layout.{Elements, elementsOf}
 use Rattle.meaning.specs.Circuit.{outAt, runs}
 use Rattle.pins.specs.Variables.{countOf}
-use Rattle.question.specs.Question.{questionTable, asked}
+use Rattle.question.specs.Question.{questionTable}
 use Rattle.question.specs.declared.Asked.{Asked}
 use Rattle.question.specs.declared.Asked.the-variants.{Verdict, Refused}
+use Rattle.askcall.specs.Asking.{gradedOf}
 use Rattle.texts.specs.Stages.{Front, stays, refused, frontOf}
 use Rattle.texts.specs.Meaning.{Meaning, means, nothing, meaning}
 
@@ -67,12 +68,8 @@ abbrev pub graded : Asked → List ℕ
 graded (Verdict g) = g ∷ []
 graded (Refused n p) = n ∷ p ∷ []
 
-abbrev pub answered : ℕ → Front → List ℕ
-answered product (stays parts) = graded (asked (elementsOf parts) 23 product)
-answered product (refused n p) = n ∷ p ∷ []
-
 abbrev pub question : String → ℕ → List ℕ
-question s product = answered product (frontOf (text s))
+question s product = graded (gradedOf (text s) 23 product 65536)
 
 pub record Example : Type 0 where
   pub found : List ℕ

@@ -1,4 +1,4 @@
--- Two small modules and what stays of them behind stages 1 to 5: T, which document 01 prints, and S, whose output is 1. Computed. Assumes nothing.
+-- Three small modules and what stays of them behind stages 1 to 5: T, which document 01 prints; S, whose output is 1; and O, the or of two. Computed. Assumes nothing.
 use mathlib.Core.Path.{_≡_, refl}
 use mathlib.Core.List.{List, [], _∷_, _++_}
 use Prim.Native.Nat.{ℕ}
@@ -72,10 +72,6 @@ parts-T =
     ++ zeros 2 ++ (1 ∷ []) ++ zeros 20 ++ (1 ∷ []) ++ zeros 1
     ++ (3 ∷ 2 ∷ 0 ∷ [])
 
-pub front-T : frontOf module-T ≡ stays parts-T
-unfolding anyBelow allBelow tally listed isBlank isLetter isDigit isSingle isPair turnOf gap endOf prefixed ofTwo ofThree ofFour ofFive ofSix keywordOf named nameAt valueOf numberAt pairKind pairAt logicAt formAt wordAt nextWord fitted divided leftOver powered combined roundsOf spelling sameBytes alike same numberOf find entry entries lookedUp extended indexSort partSort closed turn chain level dotted pointed part bracketed grammar-named muxThird muxSecond muxed kept regged inverted factor term expression nested repeat upTo given numberTurn numbers positioned aimed simple statement statementTurn statements looped ranged forFrom forOf constantTurn anotherName nameTurn nameList arrayed typed typeOf listTurn constants lists outAndVar declarations begun headed sameName ended headless wholeText meaningOf markOf literalOf logicOf plainOf openedOf elementOf operatorOf emitted raised noted allows oneMore declaredFrom assignedIn positionedIn miscountedFrom targetOf assignmentOf simple-numberTurn numbersOf listOf oneOf positionOf actOf simpleOf backTurn backOf freshName freshTurn freshOf closedType lengthOf lists-typeOf elementName constantEnd constantFrom constantOf elementTurn elementsOf listEnd signalsOf itemOf itemTurn itemsOf sectionOf sectionsOf declarationsOf passTurn passedOf upperOf lowerOf rangeOf headerOf roundOf turnsOf loopOf unroll-forFrom unroll-statementTurn statementsWith unroll-forOf nodesAt classOf run trees-valueOf firstIn endIn tops eval flat topBelow meets via marked fromEnd inverts registers keeps names replaced remains writes uses roleOf plain topped placed plainN placedN misassigned misplaced positionedRight mispositioned firstBelow stageFive outAt shows clocked runFrom value showsNext settleAll orderOf namedIn mentions namesPin variablePin chosen maskBelow flipAt setBits tabled tableIn keep spread count columns before covers imp drops any filter prime verdict expand products primes factors digits number dropsN gradeN lent compiledOf meaning isGiven settingFor fifth fourth third second frontOf wholeOf parts-T
-front-T = refl
-
 abbrev pub elements-T : Elements
 elements-T = allOf parts-T
 
@@ -93,6 +89,39 @@ parts-S =
 abbrev pub elements-S : Elements
 elements-S = allOf parts-S
 
+-- ---- O
+
+abbrev pub module-O : List ℕ
+module-O = text "MODULE T; IN a, b: BIT; OUT y: BIT; BEGIN a::2; b::3; y::23; y := a+b END T."
+
+unfoldable pub parts-O : List ℕ
+parts-O =
+    (9 ∷ 10 ∷ 4 ∷ []) ++ zeros 2045
+    ++ (1 ∷ 1 ∷ 2 ∷ []) ++ zeros 61
+    ++ (13 ∷ 16 ∷ 28 ∷ []) ++ zeros 61
+    ++ zeros 64
+    ++ (0 ∷ 0 ∷ 3 ∷ []) ++ zeros 61
+    ++ (0 ∷ 0 ∷ 1 ∷ []) ++ zeros 61
+    ++ (1 ∷ 1 ∷ 1 ∷ []) ++ zeros 61
+    ++ (2 ∷ 3 ∷ 23 ∷ []) ++ zeros 61
+    ++ zeros 64
+    ++ zeros 2 ++ (1 ∷ 1 ∷ []) ++ zeros 19 ++ (1 ∷ []) ++ zeros 1
+    ++ (4 ∷ 3 ∷ 0 ∷ [])
+
+abbrev pub elements-O : Elements
+elements-O = allOf parts-O
+
+-- ---- what stays
+
+fronts : (frontOf module-T ≡ stays parts-T) × (frontOf module-S ≡ stays parts-S) × (frontOf module-O ≡ stays parts-O)
+unfolding anyBelow allBelow tally listed isBlank isLetter isDigit isSingle isPair turnOf gap endOf prefixed ofTwo ofThree ofFour ofFive ofSix keywordOf named nameAt valueOf numberAt pairKind pairAt logicAt formAt wordAt nextWord fitted divided leftOver powered combined roundsOf spelling sameBytes alike same numberOf find entry entries lookedUp extended indexSort partSort closed turn chain level dotted pointed part bracketed grammar-named muxThird muxSecond muxed kept regged inverted factor term expression nested repeat upTo given numberTurn numbers positioned aimed simple statement statementTurn statements looped ranged forFrom forOf constantTurn anotherName nameTurn nameList arrayed typed typeOf listTurn constants lists outAndVar declarations begun headed sameName ended headless wholeText meaningOf markOf literalOf logicOf plainOf openedOf elementOf operatorOf emitted raised noted allows oneMore declaredFrom assignedIn positionedIn miscountedFrom targetOf assignmentOf simple-numberTurn numbersOf listOf oneOf positionOf actOf simpleOf backTurn backOf freshName freshTurn freshOf closedType lengthOf lists-typeOf elementName constantEnd constantFrom constantOf elementTurn elementsOf listEnd signalsOf itemOf itemTurn itemsOf sectionOf sectionsOf declarationsOf passTurn passedOf upperOf lowerOf rangeOf headerOf roundOf turnsOf loopOf unroll-forFrom unroll-statementTurn statementsWith unroll-forOf nodesAt classOf run trees-valueOf firstIn endIn tops eval flat topBelow meets via marked fromEnd inverts registers keeps names replaced remains writes uses roleOf plain topped placed plainN placedN misassigned misplaced positionedRight mispositioned firstBelow stageFive outAt shows clocked runFrom value showsNext settleAll orderOf namedIn mentions namesPin variablePin chosen maskBelow flipAt setBits tabled tableIn keep spread count columns before covers imp drops any filter prime verdict expand products primes factors digits number dropsN gradeN lent compiledOf meaning isGiven settingFor fifth fourth third second frontOf wholeOf parts-T parts-S parts-O
+fronts = (refl, refl, refl)
+
+pub front-T : frontOf module-T ≡ stays parts-T
+front-T = fronts .0
+
 pub front-S : frontOf module-S ≡ stays parts-S
-unfolding anyBelow allBelow tally listed isBlank isLetter isDigit isSingle isPair turnOf gap endOf prefixed ofTwo ofThree ofFour ofFive ofSix keywordOf named nameAt valueOf numberAt pairKind pairAt logicAt formAt wordAt nextWord fitted divided leftOver powered combined roundsOf spelling sameBytes alike same numberOf find entry entries lookedUp extended indexSort partSort closed turn chain level dotted pointed part bracketed grammar-named muxThird muxSecond muxed kept regged inverted factor term expression nested repeat upTo given numberTurn numbers positioned aimed simple statement statementTurn statements looped ranged forFrom forOf constantTurn anotherName nameTurn nameList arrayed typed typeOf listTurn constants lists outAndVar declarations begun headed sameName ended headless wholeText meaningOf markOf literalOf logicOf plainOf openedOf elementOf operatorOf emitted raised noted allows oneMore declaredFrom assignedIn positionedIn miscountedFrom targetOf assignmentOf simple-numberTurn numbersOf listOf oneOf positionOf actOf simpleOf backTurn backOf freshName freshTurn freshOf closedType lengthOf lists-typeOf elementName constantEnd constantFrom constantOf elementTurn elementsOf listEnd signalsOf itemOf itemTurn itemsOf sectionOf sectionsOf declarationsOf passTurn passedOf upperOf lowerOf rangeOf headerOf roundOf turnsOf loopOf unroll-forFrom unroll-statementTurn statementsWith unroll-forOf nodesAt classOf run trees-valueOf firstIn endIn tops eval flat topBelow meets via marked fromEnd inverts registers keeps names replaced remains writes uses roleOf plain topped placed plainN placedN misassigned misplaced positionedRight mispositioned firstBelow stageFive outAt shows clocked runFrom value showsNext settleAll orderOf namedIn mentions namesPin variablePin chosen maskBelow flipAt setBits tabled tableIn keep spread count columns before covers imp drops any filter prime verdict expand products primes factors digits number dropsN gradeN lent compiledOf meaning isGiven settingFor fifth fourth third second frontOf wholeOf parts-S
-front-S = refl
+front-S = fronts .1
+
+pub front-O : frontOf module-O ≡ stays parts-O
+front-O = fronts .2
