@@ -11,7 +11,9 @@ use native.Mathlib.Omega.{arith}
 use lib.Dec.{T, eqb, ltb, ltb→lt}
 use lib.ListN.{length, getD, set, length-set, replicate, getD-replicate, length-replicate}
 use Rattle.basics.specs.Choice.{bit, on}
-use Rattle.basics.proofs.Truth.{or-cases, or-l, or-r, and-l, and-r, and-i}
+use Rattle.basics.specs.Below.{anyBelow}
+use Rattle.basics.proofs.Truth.{or-cases, or-l, or-r, and-l, and-r, and-i, clash}
+use Rattle.basics.proofs.Folds.{any-none}
 use Rattle.basics.proofs.Store.{stored, kept, below-or-not}
 use Rattle.reach.specs.Reach.{Meets, via}
 use Rattle.reach.specs.Table.{Matrix, through, cell}
@@ -171,6 +173,16 @@ close-start t c = matrix-same t (cell t) (via (cell t) 0) c (λ i j hi hj. refl)
 
 pub close-end : (e : ℕ → ℕ → Bool) (t : List ℕ) (k : ℕ) → k ≤ 64 → 64 ≤ k → Matrix t (via e k) → Matrix t (via e 64)
 close-end e t k h l c = subst (λ (n : ℕ). Matrix t (via e n)) (omega arith) c
+
+-- by way of an element that names none nothing more is met
+pub round-none : (t : List ℕ) (k : ℕ) → Matrix t (cell t) → anyBelow (cell t k) 64 ≡ false → Matrix t (through k (cell t))
+round-none t k c e = matrix-same t (cell t) (through k (cell t)) c (λ i j hi hj. go (cell t i j) (cell t i k) (cell t k j) (any-none (cell t k) 64 e j hj))
+  where
+    go : (a b d : Bool) → d ≡ false → a ≡ (a || (b && d))
+    go a b true p = absurd (clash p)
+    go true b false p = refl
+    go false true false p = refl
+    go false false false p = refl
 
 -- where no relation is known yet
 pub matrix-none : (t : List ℕ) (v : ℕ → ℕ → Bool) → t ≡ replicate 4096 0 → ((i j : ℕ) → v i j ≡ false) → Matrix t v

@@ -5,6 +5,7 @@ ghost use mathlib.Core.List.{List};
 ghost use Prim.Native.Nat.{ℕ, _+_, _-_, _<_, _≤_};
 ghost use lib.ListN.{length, getD, replicate};
 ghost use Rattle.basics.specs.Choice.{pick, bit, on};
+ghost use Rattle.basics.specs.Below.{anyBelow};
 ghost use Rattle.trees.specs.Layout.{Elements, elementsOf, classOf, nodesAt};
 ghost use Rattle.reach.specs.Uses.{isReg, fromEnd, inverts, registers, keeps, replaced, remains, uses};
 ghost use Rattle.reach.specs.Reach.{via};
@@ -164,6 +165,34 @@ fn round(m: &mut [u8], k: usize)
     }
 }
 
+// Whether element k names another: row k has a 1.
+fn names_any(m: &[u8], k: usize) -> bool
+    requires { ⌜ length (now m) ≡ 4096 ⌝ }
+    requires { ⌜ k < 64 ⌝ }
+    ensures { λ r. ⌜ r ≡ anyBelow (cell (now (m .entry)) k) 64 ⌝ }
+{
+    let mut j: usize = 0;
+    while j < 64 {
+        if m[k * 64 + j] == 1 {
+            return true;
+        }
+        j += 1;
+    }
+    false
+}
+
+// The same round; by way of an element that names none nothing more is met.
+fn round_by(m: &mut [u8], k: usize)
+    requires { ⌜ Matrix (now m) (cell (now m)) ⌝ }
+    requires { ⌜ k < 64 ⌝ }
+    ensures { λ _. ⌜ Matrix (now (m .exit)) (through k (cell (now (m .entry)))) ⌝ }
+{
+    if names_any(m, k) {
+        round(m, k);
+        return;
+    }
+}
+
 // From which element names which to which element meets which.
 fn close(m: &mut [u8])
     requires { ⌜ Matrix (now m) (cell (now m)) ⌝ }
@@ -171,7 +200,7 @@ fn close(m: &mut [u8])
 {
     let mut k: usize = 0;
     while k < 64 {
-        round(m, k);
+        round_by(m, k);
         k += 1;
     }
 }

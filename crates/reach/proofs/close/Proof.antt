@@ -1,4 +1,4 @@
-use Rattle.reach.proofs.Warshall.{closing, close-start, close-end}
+use Rattle.reach.proofs.Warshall.{closing, close-start, close-end, matrix-own}
 use Rattle.reach.specs.Table.{Matrix, cell}
 use Rattle.reach.specs.Reach.{via}
 use Prim.Native.Nat.{_-_, _≤_}
@@ -8,7 +8,7 @@ use Rattle.reach.proofs.close.Statement.{statement}
 use Rattle.reach.proofs.close.Tie as tie
 use Rattle.reach.proofs.close.Reads as reads
 use Rattle.reach.proofs.close.Lts as lts
-use Rattle.reach.proofs.round.Reads as round-reads
+use Rattle.reach.proofs.round_by.Reads as round-by-reads
 
 abbrev Inv-loop : tie.InvT-loop
 Inv-loop m₀ k₀ m k = (k ≤ 64) × Matrix m (via (cell m₀) k)
@@ -21,8 +21,8 @@ loop-holds : tie.Need-loop-holds Inv-loop μ-loop
 loop-holds c = (omega arith, close-start _ (c .before .pre))
 
 -- src/lib.rt:170:9
-round-requires : tie.Need-round-requires Inv-loop μ-loop
-round-requires c κs = (c .before .before .loop .inv .1 .size, c .before .loop-test .taken)
+round-by-requires : tie.Need-round-by-requires Inv-loop μ-loop
+round-by-requires c κs = (matrix-own _ _ (c .before .before .loop .inv .1), c .before .loop-test .taken)
 
 -- src/lib.rt:171:9
 add-k : tie.Need-add-k Inv-loop μ-loop
@@ -34,7 +34,7 @@ loop-less c = let l = c .before .before .before .before .loop-test .taken in ome
 
 -- src/lib.rt:169:5
 loop-again : tie.Need-loop-again Inv-loop μ-loop
-loop-again c = let l = c .before .before .before .before .loop-test .taken in (omega arith, closing _ _ _ _ l (c .before .before .before .before .before .loop .inv .1) (c .before .before .round .ensures))
+loop-again c = let l = c .before .before .before .before .loop-test .taken in (omega arith, closing _ _ _ _ l (c .before .before .before .before .before .loop .inv .1) (c .before .before .round-by .ensures))
 
 -- src/lib.rt:164:1
 same-length : tie.Need-same-length Inv-loop μ-loop
@@ -51,7 +51,7 @@ close-spec =
     Inv-loop
     μ-loop
     loop-holds
-    round-requires
+    round-by-requires
     add-k
     loop-less
     loop-again
