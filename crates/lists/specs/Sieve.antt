@@ -3,7 +3,7 @@
 -- having 2 * (p + 1) + 16 and the next. A name that ends at an empty cell is surely new and is noted there; any other is looked for in the list.
 -- No answer hangs on it: proofs/Sifted has that the names of a list are judged as `freshOf` says whatever the cells hold at first.
 use Prim.Native.Nat.{ℕ, zero, suc, _+_, _-_, _*_, _/_, _%_, _^_}
-use mathlib.Core.Bool.{Bool, true, false}
+use mathlib.Core.Bool.{Bool, false}
 use mathlib.Core.List.{List}
 use lib.ListN.{length, getD, set}
 use lib.Dec.{eqb, leb, ltb}
@@ -12,7 +12,7 @@ use Rattle.words.specs.declared.Taken.{Taken}
 use Rattle.words.specs.declared.Taken.the-variants.{Word, Refused}
 use Rattle.words.specs.Words.{nextWord}
 use Rattle.names.specs.Names.{Spelling, spelling, same, lookedUp}
-use Rattle.grammar.specs.Outcome.{Outcome, ok, no, Turn, more, last}
+use Rattle.grammar.specs.Outcome.{ok, no, Turn, more, last}
 use Rattle.grammar.specs.Modules.{wordTurn}
 use Rattle.lists.specs.Lists.{isKnown, backOf, isBack}
 

@@ -1,4 +1,4 @@
-use borrow.Author.Tests.{lt-ltb, le-ltb, le-leb, lt-leb, eq-eqb, ne-eqb}
+use borrow.Author.Tests.{eq-eqb, ne-eqb}
 use Rattle.lists.specs.Sieve.{turnBy, sieveBy}
 use borrow.Author.Needs.{needs}
 use Rattle.lists.proofs.fresh_turn.Statement.{statement}
