@@ -5,11 +5,13 @@ use names::Found;
 use words::Cursor;
 use words::Taken;
 ghost use mathlib.Core.Path.{_≡_};
-ghost use Prim.Native.Nat.{_-_};
+ghost use Prim.Native.Nat.{_-_, _%_, _^_, _<_};
+ghost use lib.ListN.{getD};
 ghost use Rattle.integers.specs.Integers.{num};
-ghost use Rattle.names.specs.Names.{lookedUp};
+ghost use Rattle.names.specs.Names.{lookedUp, spelling};
 ghost use Rattle.judging.specs.Reading.{seen};
-ghost use Rattle.lists.specs.Lists.{isKnown, seenWalk, seenCame, backTurn, backOf, isBack, freshName, freshTurn, freshOf, isLength, closedType, lengthOn, lengthOf, typeOf};
+ghost use Rattle.lists.specs.Lists.{isKnown, seenWalk, seenCame, backTurn, backOf, isBack, freshOf, isLength, closedType, lengthOn, lengthOf, typeOf};
+ghost use Rattle.lists.specs.Sieve.{branch, spotOf, isNew, noted, standsBy, nameBy, turnBy, sieveBy};
 
 // One word along a list: go on, its end with what was found, or a refusal.
 pub enum Walk {
@@ -92,17 +94,128 @@ fn stands_before(text: &[u8], first: usize, start: usize, end: usize) -> bool
     }
 }
 
-// A name of a list must be new.
-fn fresh_name(text: &[u8], names: &[u16], first: usize, start: usize, end: Cursor) -> Walk
-    ensures { λ r. ⌜ seenWalk r ≡ freshName (now (text .entry)) (now (names .entry)) first start (end .at) ⌝ }
+// The weights of a byte's bits, lowest first.
+const WEIGHTS: [u8; 8] = [1, 2, 4, 8, 16, 32, 64, 128];
+
+// What bit d weighs in its byte.
+fn weight(d: usize) -> u8
+    ensures { λ r. ⌜ (r ≡ 2 ^ (d % 8)) × (0 < r) ⌝ }
 {
+    WEIGHTS[d % 8]
+}
+
+// Byte j of a spelling, 0 behind it.
+fn byte_in(text: &[u8], start: usize, n: usize, j: usize) -> u8
+    ensures { λ r. ⌜ r ≡ getD (spelling (now (text .entry)) start n .bytes) j 0 ⌝ }
+{
+    if j < n {
+        if start < text.len() {
+            if j < text.len() - start {
+                return text[start + j];
+            }
+            return 0;
+        }
+        return 0;
+    }
+    0
+}
+
+// Bit d of a spelling.
+fn branch_in(text: &[u8], start: usize, n: usize, d: usize) -> usize
+    ensures { λ r. ⌜ (r ≡ branch (spelling (now (text .entry)) start n) d) × (r < 2) ⌝ }
+{
+    let b = byte_in(text, start, n, d / 8);
+    let w = weight(d);
+    (b / w % 2) as usize
+}
+
+fn wide(x: u16) -> usize
+    ensures { λ r. ⌜ (r ≡ x) × (r < 65536) ⌝ }
+{
+    x as usize
+}
+
+// A cell of the sieve, 0 behind them.
+fn cell_in(sieve: &[u16], i: usize) -> usize
+    ensures { λ r. ⌜ (r ≡ getD (now (sieve .entry)) i 0) × (r < 65536) ⌝ }
+{
+    if i < sieve.len() {
+        return wide(sieve[i]);
+    }
+    0
+}
+
+// The cell of the sieve where a name would be noted; its length where the name may stand in it.
+fn spot_in(text: &[u8], sieve: &[u16], start: usize, n: usize) -> usize
+    ensures { λ r. ⌜ r ≡ spotOf (now (text .entry)) (now (sieve .entry)) (spelling (now (text .entry)) start n) ⌝ }
+{
+    let mut d = 0;
+    let mut i = n;
+    while d < 128 {
+        if i < sieve.len() {
+            let c = cell_in(sieve, i);
+            if c == 0 {
+                return i;
+            }
+            if names::same_name(text, c - 1, n, start, n) {
+                return sieve.len();
+            }
+            i = 2 * c + 16 + branch_in(text, start, n, d);
+            d += 1;
+        } else {
+            return sieve.len();
+        }
+    }
+    sieve.len()
+}
+
+// Whether a name is surely new to the sieve; if so it is noted there.
+fn note(text: &[u8], sieve: &mut [u16], start: usize, n: usize) -> bool
+    ensures { λ r. ⌜ (r ≡ isNew (now (text .entry)) (now (sieve .entry)) start n) × (now (sieve .exit) ≡ noted (now (text .entry)) (now (sieve .entry)) start n) ⌝ }
+{
+    if text.len() <= 65535 {
+        if start < 65535 {
+            let i = spot_in(text, sieve, start, n);
+            if i < sieve.len() {
+                sieve[i] = (start + 1) as u16;
+                return true;
+            }
+            return false;
+        }
+        return false;
+    }
+    false
+}
+
+// Whether a name stands in its list before: the list is read again only where the sieve may hold the name.
+fn stands(text: &[u8], sieve: &mut [u16], first: usize, start: usize, end: usize) -> bool
+    ensures { λ r. ⌜ (r ≡ standsBy (now (text .entry)) (now (sieve .entry)) first start end) × (now (sieve .exit) ≡ noted (now (text .entry)) (now (sieve .entry)) start (end - start)) ⌝ }
+{
+    if note(text, sieve, start, span(start, end)) {
+        return false;
+    }
+    stands_before(text, first, start, end)
+}
+
+// A name of a list must be new.
+fn fresh_name(
+    text: &[u8],
+    names: &[u16],
+    sieve: &mut [u16],
+    first: usize,
+    start: usize,
+    end: Cursor,
+) -> Walk
+    ensures { λ r. ⌜ (seenWalk r ≡ nameBy (now (text .entry)) (now (names .entry)) (now (sieve .entry)) first start (end .at)) × (now (sieve .exit) ≡ noted (now (text .entry)) (now (sieve .entry)) start (end .at - start)) ⌝ }
+{
+    let before = stands(text, sieve, first, start, end.at);
     if is_known(text, names, start, end.at) {
         return Walk::Off {
             number: 4,
             place: start,
         };
     }
-    if stands_before(text, first, start, end.at) {
+    if before {
         return Walk::Off {
             number: 4,
             place: start,
@@ -112,8 +225,8 @@ fn fresh_name(text: &[u8], names: &[u16], first: usize, start: usize, end: Curso
 }
 
 // One word of a list.
-fn fresh_turn(text: &[u8], names: &[u16], first: usize, from: Cursor) -> Walk
-    ensures { λ r. ⌜ seenWalk r ≡ freshTurn (now (text .entry)) (now (names .entry)) first 0 (from .at) tt ⌝ }
+fn fresh_turn(text: &[u8], names: &[u16], sieve: &mut [u16], first: usize, from: Cursor) -> Walk
+    ensures { λ r. ⌜ (seenWalk r ≡ turnBy (now (text .entry)) (now (names .entry)) (now (sieve .entry)) first (from .at)) × (now (sieve .exit) ≡ sieveBy (now (text .entry)) (now (sieve .entry)) (from .at)) ⌝ }
 {
     match from.next(text) {
         Taken::Word {
@@ -123,7 +236,7 @@ fn fresh_turn(text: &[u8], names: &[u16], first: usize, from: Cursor) -> Walk
             next,
         } => {
             if kind == 1 {
-                return fresh_name(text, names, first, start, next);
+                return fresh_name(text, names, sieve, first, start, next);
             }
             if kind == 44 {
                 return Walk::On { next };
@@ -140,13 +253,13 @@ fn fresh_turn(text: &[u8], names: &[u16], first: usize, from: Cursor) -> Walk
     }
 }
 
-// The names of the list that begins at a place are new.
-pub fn fresh(text: &[u8], names: &[u16], first: usize) -> Came
+// The names of the list that begins at a place are new; the sieve is lent.
+fn fresh_along(text: &[u8], names: &[u16], sieve: &mut [u16], first: usize) -> Came
     ensures { λ r. ⌜ seenCame r ≡ freshOf (now (text .entry)) (now (names .entry)) first ⌝ }
 {
     let mut at = first;
     loop {
-        match fresh_turn(text, names, first, Cursor { at }) {
+        match fresh_turn(text, names, sieve, first, Cursor { at }) {
             Walk::On { next } => {
                 at = next.at;
             }
@@ -154,6 +267,14 @@ pub fn fresh(text: &[u8], names: &[u16], first: usize) -> Came
             Walk::Off { number, place } => return Came::Twice { number, place },
         }
     }
+}
+
+// The names of the list that begins at a place are new.
+pub fn fresh(text: &[u8], names: &[u16], first: usize) -> Came
+    ensures { λ r. ⌜ seenCame r ≡ freshOf (now (text .entry)) (now (names .entry)) first ⌝ }
+{
+    let mut sieve: [u16; 65554] = [0; 65554];
+    fresh_along(text, names, &mut sieve, first)
 }
 
 // Whether a number is the length of an array.

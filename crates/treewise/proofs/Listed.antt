@@ -8,7 +8,7 @@ use Prim.Native.Nat.{ℕ, suc, _+_, _-_, _<_, _≤_}
 use native.Mathlib.Omega.{arith}
 use lib.ListN.{length, getD, set}
 use lib.Dec.{eqb, leb}
-use borrow.Author.Tests.{eqb-true, le-leb, lt-leb}
+use borrow.Author.Tests.{eqb-true}
 use Rattle.basics.specs.Choice.{pick}
 use Rattle.words.specs.declared.Cursor.{Cursor}
 use Rattle.words.specs.declared.Taken.the-variants.{Word}
@@ -20,14 +20,15 @@ use Rattle.grammar.specs.Modules.{nameTurn, anotherName, nameList}
 use Rattle.grammar.specs.Forms.{Names, firstName, andName, treeForms}
 use Rattle.judging.specs.Reading.{State}
 use Rattle.parts.specs.Parts.{elementsAt, declaredFrom}
-use Rattle.lists.specs.Lists.{isKnown, backTurn, backOf, isBack, freshName, freshTurn, freshOf}
-use Rattle.lists.proofs.Laws.{back, back-more, back-last, rest, fresh-more, fresh-last}
+use Rattle.lists.specs.Lists.{isKnown, backOf, isBack, freshName, freshTurn, freshOf}
+use Rattle.lists.proofs.Laws.{back, rest, fresh-more, fresh-last}
 use Rattle.declare.specs.Declarations.{widthOf, elementName, elementTurn, elementsOf}
 use Rattle.declare.proofs.Laws.{elements, elements-more, elements-last}
 use Rattle.treewise.specs.Declared.{Fresh, new, old, alsoNew, elementIn, elementsIn, standsIn, freshIn}
 use Rattle.treewise.proofs.Trace.{When, whenT-pick, when-repeat, whenT-word, Stands}
 use Rattle.treewise.proofs.Loops.{after-then, after-alike}
-use Rattle.treewise.proofs.Spelt.{Lies, name-lies, comma-lies, comma-unlike}
+use Rattle.lists.proofs.Spelt.{Lies, name-lies, comma-lies}
+use Rattle.lists.proofs.Before.{nearer, back-name, back-comma, back-self}
 
 -- a walk along names that goes on where they are new
 abbrev pub freshThen : Fresh → Outcome (Unit {0}) ℕ → Outcome (Unit {0}) ℕ
@@ -46,58 +47,8 @@ or-moves : (a b c : Bool) → (a || (b || c)) ≡ ((a || b) || c)
 or-moves true b c = refl
 or-moves false b c = refl
 
-nearer : (s : List ℕ) (i at st e : ℕ) (b : Bool) → i ≤ at → Lies s at st e b → Lies s i st e b
-nearer s i at st e b l h = let o : at ≤ st = h .behind in record { behind = omega arith; some = h .some; within = h .within; first = h .first }
-
 module _ (s : List ℕ) where
   module _ (at st v : ℕ) (c : Cursor) where
-    -- a name that was before: it is the one that is looked for, or the walk goes on behind it
-    back-name : nextWord s at ≡ Word 1 st v c → (st′ e′ : ℕ) → Lies s (c .at) st′ e′ true
-        → isBack (back s st′ e′ at) ≡ (same (spelling s st (c .at - st)) (spelling s st′ (e′ - st′)) || isBack (back s st′ e′ (c .at)))
-    back-name q st′ e′ h = go (same (spelling s st (c .at - st)) (spelling s st′ (e′ - st′))) refl
-      where
-        ahead : leb st′ st ≡ false
-        ahead =
-            let o₁ : st < c .at = name-lies s at 1 st v c q refl .some in
-            let o₂ : c .at ≤ st′ = h .behind in
-            lt-leb st′ st (omega arith)
-
-        turned-last : same (spelling s st (c .at - st)) (spelling s st′ (e′ - st′)) ≡ true → backTurn s st′ e′ 0 at tt ≡ last (ok 1 (c .at) tt)
-        turned-last b = unfold backTurn in rw (q, ahead, b) refl
-
-        turned-more : same (spelling s st (c .at - st)) (spelling s st′ (e′ - st′)) ≡ false → backTurn s st′ e′ 0 at tt ≡ more 0 (c .at) tt
-        turned-more b = unfold backTurn in rw (q, ahead, b) refl
-
-        go : (b : Bool) → same (spelling s st (c .at - st)) (spelling s st′ (e′ - st′)) ≡ b → isBack (back s st′ e′ at) ≡ (b || isBack (back s st′ e′ (c .at)))
-        go true b = ap isBack (back-last s st′ e′ at (ok 1 (c .at) tt) (turned-last b))
-        go false b = ap isBack (back-more s st′ e′ at (c .at) (turned-more b))
-
-    -- a comma is passed over
-    back-comma : nextWord s at ≡ Word 44 st v c → (st′ e′ : ℕ) → Lies s (c .at) st′ e′ true → back s st′ e′ at ≡ back s st′ e′ (c .at)
-    back-comma q st′ e′ h = back-more s st′ e′ at (c .at) turned-on
-      where
-        comma : Lies s at st (c .at) false
-        comma = comma-lies s at 44 st v c q refl
-
-        ahead : leb st′ st ≡ false
-        ahead =
-            let o₁ : st < c .at = comma .some in
-            let o₂ : c .at ≤ st′ = h .behind in
-            lt-leb st′ st (omega arith)
-
-        turned-on : backTurn s st′ e′ 0 at tt ≡ more 0 (c .at) tt
-        turned-on = unfold backTurn in rw (q, ahead, comma-unlike s at st (c .at) (c .at) st′ e′ comma h) refl
-
-    -- at the name itself the walk ends
-    back-self : nextWord s at ≡ Word 1 st v c → (e : ℕ) → isBack (back s st e at) ≡ false
-    back-self q e = ap isBack (back-last s st e at (ok 0 (c .at) tt) turned-last)
-      where
-        here : leb st st ≡ true
-        here = le-leb st st (omega arith)
-
-        turned-last : backTurn s st e 0 at tt ≡ last (ok 0 (c .at) tt)
-        turned-last = unfold backTurn in rw (q, here) refl
-
     element-at : nextWord s at ≡ Word 1 st v c → (k n : ℕ) (t : List ℕ) (y : State)
         → elements s k n t at y ≡ afterBuilt (elementIn k n t st (c .at) y) (λ u z. elements s k n u (c .at) z)
     unfolding elementIn
@@ -161,8 +112,8 @@ module _ (s : List ℕ) where
     first-are : (st v : ℕ) (c : Cursor) → nextWord s first ≡ Word 1 st v c → Names-are (firstName st (c .at)) (c .at)
     unfolding standsIn freshIn elementsIn freshOf elementsOf
     first-are st v c q = record {
-      walked = λ st′ e′ h. back-name first st v c q st′ e′ h;
-      fresh = λ t. fresh-at t first st v c false q (back-self first st v c q (c .at)) ∙ ap (λ (b : Bool). freshThen (pick b (old st) new) (rest s t first (c .at))) (or-none (isKnown (lookedUp s t st (c .at - st))));
+      walked = λ st′ e′ h. back-name s first st v c q st′ e′ h;
+      fresh = λ t. fresh-at t first st v c false q (back-self s first st v c q (c .at)) ∙ ap (λ (b : Bool). freshThen (pick b (old st) new) (rest s t first (c .at))) (or-none (isKnown (lookedUp s t st (c .at - st))));
       made = λ k n t y. element-at first st v c q k n t y;
     }
 
@@ -173,7 +124,7 @@ module _ (s : List ℕ) where
       walked = λ st′ e′ h.
           m .walked st′ e′ (nearer s i (c .at) st′ e′ true far h)
           ∙ ap (λ (b : Bool). standsIn s l st′ e′ || b)
-          (ap isBack (back-comma i st₁ v₁ c₁ q₁ st′ e′ (nearer s (c₁ .at) (c .at) st′ e′ true far₁ h)) ∙ back-name (c₁ .at) st v c q st′ e′ h)
+          (ap isBack (back-comma s i st₁ v₁ c₁ q₁ st′ e′ (nearer s (c₁ .at) (c .at) st′ e′ true far₁ h)) ∙ back-name s (c₁ .at) st v c q st′ e′ h)
           ∙ or-moves (standsIn s l st′ e′) (same (spelling s st (c .at - st)) (spelling s st′ (e′ - st′))) (isBack (back s st′ e′ (c .at)));
       fresh = λ t.
           m .fresh t
@@ -204,7 +155,7 @@ module _ (s : List ℕ) where
         before : isBack (back s st (c .at) first) ≡ standsIn s l st (c .at)
         before =
             m .walked st (c .at) (nearer s i (c₁ .at) st (c .at) true near name)
-            ∙ ap (λ (b : Bool). standsIn s l st (c .at) || b) (ap isBack (back-comma i st₁ v₁ c₁ q₁ st (c .at) name) ∙ back-self (c₁ .at) st v c q (c .at))
+            ∙ ap (λ (b : Bool). standsIn s l st (c .at) || b) (ap isBack (back-comma s i st₁ v₁ c₁ q₁ st (c .at) name) ∙ back-self s (c₁ .at) st v c q (c .at))
             ∙ or-none (standsIn s l st (c .at))
 
     pub names-are : (st v : ℕ) (c : Cursor) → nextWord s first ≡ Word 1 st v c → When Names-are (nameList trees treeForms s st (c .at) tt)
