@@ -20,8 +20,8 @@ use Rattle.device.specs.Device.{productsOf}
 use Rattle.fit.specs.Fit.{primesOf, fits, taken, refused, opposite, inverted, fitted}
 use Rattle.fit.specs.declared.Fitted.{Fitted}
 use Rattle.cells.specs.Map.{used, clocked}
-use Rattle.behave.specs.Circuit.{Kind, code, inUse, holds, Circuit, Fits}
-use Rattle.behave.specs.Circuit.Kind.{unused, combinational, registered}
+use Rattle.behave.specs.Cells.{Kind, code, inUse, holds, Cells, Fits}
+use Rattle.behave.specs.Cells.Kind.{unused, combinational, registered}
 
 -- ---- kinds
 

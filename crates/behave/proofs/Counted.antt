@@ -32,7 +32,7 @@ use Rattle.rows.proofs.Rows.{product-length}
 use Rattle.gal.specs.Map.{fuse, rowIs}
 use Rattle.cells.specs.Map.{used, mapOf}
 use Rattle.cells.specs.Counts.{productsIn, sumBelow, factorsIn, picks}
-use Rattle.behave.specs.Circuit.{inUse, holds, Circuit, Fits}
+use Rattle.behave.specs.Cells.{inUse, holds, Cells, Fits}
 use Rattle.behave.proofs.Meets.{mask-row, rows-rise}
 use Rattle.behave.proofs.Emitted.{row-all, row-not, rest-fuse}
 use Rattle.behave.proofs.Chosen.{inRows, Chosen, each-at, primes-wide}
@@ -156,7 +156,7 @@ rising-at (p ∷ q ∷ ps) (suc i) h (more x y e r) = rising-at (q ∷ ps) i (om
 
 -- ---- a cell of the emitted map
 
-module _ (c : Circuit) (all : List (List ℕ)) (counts kinds s0s : List ℕ) (w : Fits c all counts kinds s0s) (k : ℕ) (h : k < 10) (u : inUse (c .kind k) ≡ true) where
+module _ (c : Cells) (all : List (List ℕ)) (counts kinds s0s : List ℕ) (w : Fits c all counts kinds s0s) (k : ℕ) (h : k < 10) (u : inUse (c .kind k) ≡ true) where
   -- the primes whose rows the cell has
   ps : List (List Digit)
   ps = primesOf (c .named k) (inRows (holds (c .kind k)) (true-bit (getD s0s k 0)) (c .function k))

@@ -9,11 +9,11 @@ use Rattle.gal.specs.Model.{runs as modelRuns}
 use Rattle.outputs.specs.Outputs.{mapFor}
 use Rattle.agree.specs.Pins.{isCallers, pinsFor, seen, seenOf}
 use Rattle.agree.proofs.Agrees.{agrees}
-use Rattle.fusetext.specs.Outcome.{Outcome, gives}
+use Rattle.fusetext.specs.Outcome.{gives}
 use Rattle.fuseread.specs.Reading.{readOf}
 use Rattle.fusetrip.proofs.Trip.{trip}
 use Rattle.texts.specs.Calls.{compiledOf}
-use Rattle.texts.specs.Meaning.{Meaning, means, meaning, isGiven, settingFor}
+use Rattle.texts.specs.Meaning.{means, meaning, isGiven, settingFor}
 use Rattle.texts.proofs.Emits.{emits-map}
 use Rattle.demands.proofs.Accepted.{Accepted, accepted, its-meaning}
 

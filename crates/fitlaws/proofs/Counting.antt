@@ -11,7 +11,7 @@ use Rattle.trees.specs.Layout.{Elements}
 use Rattle.gal.specs.Map.{enabled}
 use Rattle.cells.specs.Map.{mapOf}
 use Rattle.cells.specs.Counts.{productsIn, factorsIn, picks}
-use Rattle.behave.specs.Circuit.{inUse}
+use Rattle.behave.specs.Cells.{inUse}
 use Rattle.behave.proofs.Behaves.{use-is}
 use Rattle.behave.proofs.Counted.{products-counted, factors-counted}
 use Rattle.outputs.specs.Outputs.{kindOf, cellsOf, cellOf, masksOf, countsOf, kindsOf, s0sOf, mapFor}

@@ -24,7 +24,7 @@ use Rattle.fit.specs.declared.Fitted.{Fitted}
 use Rattle.cells.specs.Counts.{picks}
 use Rattle.cells.specs.Map.{mapOf}
 use Rattle.reach.specs.Uses.{registers}
-use Rattle.behave.specs.Circuit.{Kind, unused, combinational, registered, code}
+use Rattle.behave.specs.Cells.{Kind, unused, combinational, registered, code}
 use Rattle.outputs.specs.declared.Tried.{Tried}
 use Rattle.outputs.specs.Outputs.{outOf, kindOf, tooMany, fittedOut, misfits, stageSix, cellOf, ten, masksOf, countsOf, kindsOf, s0sOf, mapFor}
 use Rattle.outputs.specs.Trial.{triedOf}
@@ -258,6 +258,10 @@ map-is e all counts kinds s0s a b c d = λ y. mapOf (a y) (b y) (c y) (d y)
 
 pub after-fine : (v : Verdict) (new old l : List ℕ) → fine ≡ v → l ≡ new → l ≡ after v new old
 after-fine v new old l q w = w ∙ ap (λ (x : Verdict). after x new old) q
+
+-- where stage 6 lets pass, the lent memory holds what is new
+pub after-new : (v : Verdict) (new old l : List ℕ) → fine ≡ v → l ≡ after v new old → l ≡ new
+after-new v new old l q w = w ∙ ap (λ (x : Verdict). after x new old) (sym q)
 
 pub after-refused : (v : Verdict) (new old l : List ℕ) (n p : ℕ) → refused n p ≡ v → l ≡ old → l ≡ after v new old
 after-refused v new old l n p q w = w ∙ ap (λ (x : Verdict). after x new old) q

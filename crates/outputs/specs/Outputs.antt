@@ -16,7 +16,7 @@ use Rattle.engine.specs.Table.{function}
 use Rattle.fit.specs.Fit.{fitted, refused as noProducts}
 use Rattle.fit.specs.declared.Fitted.{Fitted}
 use Rattle.cells.specs.Map.{mapOf}
-use Rattle.behave.specs.Circuit.{Kind, unused, combinational, registered, code, Circuit as Cells}
+use Rattle.behave.specs.Cells.{Kind, unused, combinational, registered, code, Cells}
 
 -- the OUT element of cell k, 64 where there is none
 abbrev pub outOf : Elements → ℕ → ℕ

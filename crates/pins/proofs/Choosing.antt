@@ -13,6 +13,7 @@ use Rattle.basics.specs.Choice.{bit, pick}
 use Rattle.basics.specs.Below.{tally, allBelow}
 use Rattle.basics.proofs.Folds.{tally-next, tally-le, all-at}
 use Rattle.trees.specs.Layout.{Elements}
+use Rattle.device.specs.Device.{columnOf}
 use Rattle.meaning.proofs.Ordering.{pushed, count-none}
 use Rattle.pins.specs.Variables.{variablePin, namesVariable, chosen, maskBelow}
 use Rattle.pins.specs.Memory.{Variables}
@@ -56,7 +57,7 @@ unfolding allBelow
 power-small i h = ltb-true (2 ^ i) 4194304 (all-at (λ k. ltb (2 ^ k) 4194304) 22 refl i h)
 
 pub pin-small : (rows : Bool) (i : ℕ) → i < 22 → variablePin rows i < 24
-unfolding allBelow variablePin
+unfolding allBelow variablePin columnOf
 pin-small true i h = ltb-true (variablePin true i) 24 (all-at (λ k. ltb (variablePin true k) 24) 22 refl i h)
 pin-small false i h = ltb-true (variablePin false i) 24 (all-at (λ k. ltb (variablePin false k) 24) 22 refl i h)
 

@@ -14,19 +14,14 @@ use Rattle.meaning.specs.Meaning.{value, showsNext}
 use Rattle.meaning.specs.Circuit.{outAt}
 use Rattle.meaning.proofs.Marked.{toggles}
 use Rattle.pins.specs.Named.{mentions, namesPin}
+use Rattle.device.specs.Device.{columnOf}
 use Rattle.pins.specs.Variables.{variablePin, chosen, variablesOf, maskBelow}
 use Rattle.tables.specs.Tables.{flipAt, setBits, entryOf, tabled, Tabled}
 use Rattle.tables.specs.Tables.Tabled.{table}
 
--- variables 19 (pin 2) and 20 (pin 23)
-pub rows-of-toggles : tabled toggles true 1 ≡ table 2 1572864
-unfolding anyBelow tally run valueOf fromEnd inverts registers keeps names replaced remains writes uses via topBelow meets firstBelow value showsNext outAt mentions namesPin variablePin chosen maskBelow flipAt setBits tabled
-rows-of-toggles = refl
-
-pub row-entries : map (entryOf toggles true 1) (0 ∷ 1 ∷ 2 ∷ 3 ∷ []) ≡ true ∷ false ∷ false ∷ true ∷ []
-unfolding anyBelow tally run valueOf fromEnd inverts registers keeps names replaced remains writes uses via topBelow meets firstBelow value showsNext outAt mentions namesPin variablePin chosen maskBelow flipAt setBits
-row-entries = refl
-
-pub question-entries : map (entryOf toggles false 1) (0 ∷ 1 ∷ 2 ∷ 3 ∷ []) ≡ false ∷ true ∷ true ∷ false ∷ []
-unfolding anyBelow tally run valueOf fromEnd inverts registers keeps names replaced remains writes uses via topBelow meets firstBelow value showsNext outAt mentions namesPin variablePin chosen maskBelow flipAt setBits
-question-entries = refl
+-- over variables 19 (pin 2) and 20 (pin 23): which they are, the entries for rows, and those for the question
+pub tables-of-toggles : (tabled toggles true 1 ≡ table 2 1572864)
+    × (map (entryOf toggles true 1) (0 ∷ 1 ∷ 2 ∷ 3 ∷ []) ≡ true ∷ false ∷ false ∷ true ∷ [])
+    × (map (entryOf toggles false 1) (0 ∷ 1 ∷ 2 ∷ 3 ∷ []) ≡ false ∷ true ∷ true ∷ false ∷ [])
+unfolding anyBelow tally run valueOf fromEnd inverts registers keeps names replaced remains writes uses via topBelow meets firstBelow value showsNext outAt mentions namesPin variablePin columnOf chosen maskBelow flipAt setBits tabled
+tables-of-toggles = (refl, refl, refl)

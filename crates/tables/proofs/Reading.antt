@@ -23,6 +23,7 @@ use Rattle.meaning.specs.Meaning.{showsNext, takesNext}
 use Rattle.meaning.proofs.Fine.{fine-is}
 use Rattle.meaning.proofs.Standing.{positioned-right, right-role}
 use Rattle.pins.specs.Named.{mentions, mentionsAt, namesPin}
+use Rattle.device.specs.Device.{columnOf}
 use Rattle.pins.specs.Variables.{variablePin, namesVariable, chosen, variablesOf}
 use Rattle.pins.proofs.Resting.{rests}
 use Rattle.tables.specs.Tables.{flipAt, setBits, settingAt, outcome, entryOf}
@@ -147,7 +148,7 @@ unfoldable covered : Bool → ℕ → Bool
 covered rows p = not (signalRole p) || anyBelow (λ i. eqb (variablePin rows i) p) 22
 
 covers : (rows : Bool) → allBelow (covered rows) 24 ≡ true
-unfolding allBelow anyBelow covered signalRole roleOf variablePin
+unfolding allBelow anyBelow covered signalRole roleOf variablePin columnOf
 covers true = refl
 covers false = refl
 
