@@ -1,28 +1,26 @@
 -- The model of the emitted map shows on each pin what its cell's function says, and clocks each register to what its function says.
 -- Assumes nothing.
-use mathlib.Core.Path.{_≡_, refl, sym, ap, ap₂, _∙_, subst}
-use mathlib.Core.Bool.{Bool, true, false, not, _&&_, _||_}
-use mathlib.Core.List.{List, [], _∷_}
-use Prim.Native.Nat.{ℕ, _+_, _-_, _≤_, _<_}
+use mathlib.Core.Path.{_≡_, refl, ap, _∙_}
+use mathlib.Core.Bool.{Bool, true, false, not, _&&_}
+use mathlib.Core.List.{List, []}
+use Prim.Native.Nat.{ℕ, _+_, _-_, _<_}
 use native.Mathlib.Omega.{arith}
 use lib.Dec.{T, ltb, ltb→lt}
 use lib.ListN.{length, getD}
 use Rattle.basics.specs.Choice.{bit, on, pick, xor}
-use Rattle.basics.specs.Below.{listed}
 use Rattle.basics.proofs.Folds.{listed-same, listed-length}
-use Rattle.basics.proofs.Truth.{and-l, and-r, of-true, clash}
+use Rattle.basics.proofs.Truth.{and-l, and-r, of-true}
 use Rattle.cover.specs.Sum.{over}
 use Rattle.fit.specs.Fit.{opposite}
 use Rattle.device.specs.Device.{columnOf}
 use Rattle.rows.specs.Setting.{settingOf}
-use Rattle.gal.specs.Map.{plainOut, registered, enabled, isCell, signal, signals, total}
-use Rattle.gal.specs.Refuse.{noMap, outside, noValues}
+use Rattle.gal.specs.Map.{registered, enabled, isCell, signal, signals, total}
+use Rattle.gal.specs.Refuse.{noValues}
 use Rattle.gal.specs.Show.{shownAt, cellValue, valueAt, shownPins, valuePins}
 use Rattle.gal.specs.Clock.{nextAt, nextBits}
 use Rattle.gal.specs.Model.{refusal, answered, modelled}
-use Rattle.gal.specs.declared.Answer.{Answer}
 use Rattle.gal.specs.declared.Verdict.the-variants.{Shown}
-use Rattle.cells.specs.Map.{used, clocked, mapOf}
+use Rattle.cells.specs.Map.{mapOf}
 use Rattle.behave.specs.Cells.{Kind, inUse, holds, Cells, value, Fits, Grounded, signalOf, settingFor, shows, shownOf, valueOf, nextOf, answerOf}
 use Rattle.behave.specs.Cells.Kind.{unused, combinational, registered as register}
 use Rattle.behave.proofs.Emitted.{enabled-is, registered-is, plain-is}

@@ -1,34 +1,30 @@
 -- The same cells have the same map, and the same map is of the same cells.
 -- Assumes nothing.
 use mathlib.Core.Path.{_≡_, refl, sym, ap, ap₂, _∙_, subst}
-use mathlib.Core.Logic.{_⊎_, inl, inr, ⊎-elim}
-use mathlib.Core.Bool.{Bool, true, false, not, _&&_, _||_}
+use mathlib.Core.Bool.{Bool, true, false, not, _||_}
 use mathlib.Core.List.{List, [], _∷_, _++_, append-nil}
-use Prim.Native.Nat.{ℕ, zero, suc, _+_, _-_, _*_, _/_, _%_, _≤_, _<_}
+use Prim.Native.Nat.{ℕ, _+_, _-_, _/_, _%_, _<_}
 use native.Mathlib.Omega.{arith}
 use borrow.Author.Tests.{ltb-true}
-use lib.Dec.{eqb, leb, ltb}
+use lib.Dec.{eqb, ltb}
 use lib.ListN.{length, getD, replicate}
 use Rattle.basics.specs.Choice.{bit, on, pick, xor}
-use Rattle.basics.specs.Below.{listed}
 use Rattle.basics.proofs.Folds.{listed-same}
 use Rattle.basics.proofs.Truth.{clash}
-use Rattle.sums.specs.Product.{Digit}
 use Rattle.sums.proofs.Named.{primes-ext}
 use Rattle.cover.specs.Sum.{over}
 use Rattle.device.specs.Device.{enableOf}
 use Rattle.fit.specs.Fit.{primesOf, fits, taken, refused, opposite, inverted, fitted}
 use Rattle.fit.specs.declared.Fitted.{Fitted}
-use Rattle.rows.specs.Row.{productRow}
 use Rattle.rows.specs.Setting.{settingFrom, settingOf}
 use Rattle.gal.specs.Map.{plainOut, registered, enabled, total}
 use Rattle.gal.specs.Show.{cellValue}
-use Rattle.cells.specs.Map.{used, clocked, cellRow, cellAt, rowAt, rowFuse, s0Fuse, s1Fuse, switchFuse, fuseAt, mapOf}
+use Rattle.cells.specs.Map.{used, clocked, cellRow, cellAt, rowAt, s0Fuse, switchFuse, fuseAt, mapOf}
 use Rattle.cells.proofs.Writing.{few-cells}
-use Rattle.behave.specs.Cells.{Kind, code, inUse, holds, Cells, value, Fits, shows, Same}
+use Rattle.behave.specs.Cells.{Kind, inUse, holds, Cells, value, Fits, Same}
 use Rattle.behave.specs.Cells.Kind.{unused, combinational, registered as register}
 use Rattle.behave.proofs.Emitted.{plain-is}
-use Rattle.behave.proofs.Chosen.{used-is, clocked-is, inRows, Chosen}
+use Rattle.behave.proofs.Chosen.{used-is, clocked-is, inRows}
 use Rattle.behave.proofs.Within.{choice}
 use Rattle.behave.proofs.Behaves.{held-used, held-is, use-is, sum-is, cell-shows}
 

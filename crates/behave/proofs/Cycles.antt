@@ -1,19 +1,19 @@
 -- The model of the emitted map, run from power-up, answers cycle after cycle as the cells' functions do.
 -- Assumes nothing.
-use mathlib.Core.Path.{_≡_, refl, sym, ap, ap₂, _∙_, subst}
+use mathlib.Core.Path.{_≡_, refl, ap, ap₂, _∙_}
 use mathlib.Core.Bool.{Bool, true, false, not, _&&_, _||_}
 use mathlib.Core.List.{List, [], _∷_}
-use Prim.Native.Nat.{ℕ, _+_, _-_, _<_}
+use Prim.Native.Nat.{ℕ, _+_, _-_}
 use native.Mathlib.Omega.{arith}
 use lib.Dec.{eqb, ltb}
 use lib.ListN.{getD, replicate, getD-replicate}
-use Rattle.basics.specs.Choice.{bit, on}
-use Rattle.basics.specs.Below.{anyBelow, listed}
+use Rattle.basics.specs.Choice.{bit}
+use Rattle.basics.specs.Below.{listed}
 use Rattle.basics.proofs.Folds.{any-same, listed-at}
 use Rattle.sums.proofs.Named.{Each}
 use Rattle.gal.specs.Map.{registered, enabled, isCell}
 use Rattle.gal.specs.Refuse.{callers, wrong, wrongPins, wrongBits, noValues}
-use Rattle.gal.specs.Model.{modelled, runFrom, runs}
+use Rattle.gal.specs.Model.{runFrom, runs}
 use Rattle.gal.specs.declared.Answer.{Answer}
 use Rattle.cells.specs.Map.{mapOf}
 use Rattle.behave.specs.Cells.{inUse, holds, Cells, value, Fits, Grounded, settingFor, nextOf, answerOf, givable, refusedPins, cyclesOf}

@@ -5,13 +5,12 @@ use mathlib.Core.Path.{_≡_}
 use mathlib.Core.Bool.{Bool, true, false, not, _&&_, _||_}
 use mathlib.Core.List.{List, [], _∷_}
 use Prim.Native.Nat.{ℕ, _+_, _-_, _<_}
-use lib.Dec.{T, eqb, ltb}
+use lib.Dec.{eqb, ltb}
 use lib.ListN.{length, getD}
 use Rattle.basics.specs.Choice.{bit, on, pick, xor}
 use Rattle.basics.specs.Below.{anyBelow, listed}
 use Rattle.cover.specs.Sum.{bitsOf, over}
 use Rattle.fit.specs.Fit.{fitted}
-use Rattle.fit.specs.declared.Fitted.{Fitted}
 use Rattle.device.specs.Device.{columnOf}
 use Rattle.rows.specs.Setting.{settingOf}
 use Rattle.gal.specs.Map.{isCell}

@@ -51,14 +51,14 @@ exact (refuses k q) n p e = sym e
 -- each outcome is told by its answer, and the answer says of it all but the bytes
 refusal-of : {A : Type 0} (told : Outcome → A) (back : A → Outcome) → ((l : List ℕ) → back (told (gives l)) ≡ gives []) → ((n p : ℕ) → back (told (refuses n p)) ≡ refuses n p)
     → (o : Outcome) (n p : ℕ) (before after : List ℕ) → told (refuses n p) ≡ told o → after ≡ left o before → Refusal o n p before after
-refusal-of told back given not o n p before after e l = record { because = same; untouched = l ∙ ap (λ (x : Outcome). left x before) same }
+refusal-of told back gave denied o n p before after e l = record { because = same; untouched = l ∙ ap (λ (x : Outcome). left x before) same }
   where
     says : (o : Outcome) → back (told o) ≡ without o
-    says (gives l) = given l
-    says (refuses n p) = not n p
+    says (gives l) = gave l
+    says (refuses n p) = denied n p
 
     same : o ≡ refuses n p
-    same = exact o n p (sym (not n p) ∙ ap back e ∙ says o)
+    same = exact o n p (sym (denied n p) ∙ ap back e ∙ says o)
 
 abbrev ofCompiled : Compiled → Outcome
 ofCompiled (Filed n) = gives []

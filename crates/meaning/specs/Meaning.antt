@@ -2,7 +2,7 @@
 -- what remains speaks of IN pins and registered OUT pins). A setting gives each pin its value: that of a registered OUT is what its pin shows.
 -- Assumes nothing.
 use mathlib.Core.Path.{_≡_}
-use mathlib.Core.Bool.{Bool, true, false, _&&_}
+use mathlib.Core.Bool.{Bool, false, _&&_}
 use Prim.Native.Nat.{ℕ, zero, suc}
 use Rattle.basics.specs.Choice.{pick, xor}
 use Rattle.trees.specs.Machine.{valueOf}

@@ -1,6 +1,6 @@
 -- From a module's elements to the ten cells and the map (document 01, "From equation to rows"; "Refusal numbers", stage 6). Cells are counted from 0, that of
 -- pin 23 first. Assumes nothing.
-use mathlib.Core.Bool.{Bool, true, false, not, _&&_, _||_}
+use mathlib.Core.Bool.{Bool, true, not, _&&_, _||_}
 use mathlib.Core.List.{List, [], _∷_}
 use Prim.Native.Nat.{ℕ, _-_, _^_}
 use lib.Dec.{eqb, leb, ltb}

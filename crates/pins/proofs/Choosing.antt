@@ -1,17 +1,17 @@
 -- The loop that collects the named variables. Assumes nothing.
 use mathlib.Core.Path.{_≡_, refl, sym, ap, ap₂, _∙_, subst}
-use mathlib.Core.Bool.{Bool, true, false, not, _&&_, _||_}
+use mathlib.Core.Bool.{Bool, true, false}
 use mathlib.Core.List.{List, [], _∷_, _++_}
-use Prim.Native.Nat.{ℕ, zero, suc, _+_, _-_, _*_, _^_, _≤_, _<_}
+use Prim.Native.Nat.{ℕ, zero, suc, _+_, _*_, _^_, _≤_, _<_}
 use native.Mathlib.Numerals.{add-one}
 use native.Mathlib.Nat.{pow-suc}
 use native.Mathlib.Omega.{arith}
-use lib.Dec.{T, eqb, ltb}
+use lib.Dec.{ltb}
 use borrow.Author.Tests.{ltb-true}
-use lib.ListN.{length, getD, set, take, length-set}
+use lib.ListN.{length, set, take, length-set}
 use Rattle.basics.specs.Choice.{bit, pick}
 use Rattle.basics.specs.Below.{tally, allBelow}
-use Rattle.basics.proofs.Folds.{tally-next, tally-le, all-at}
+use Rattle.basics.proofs.Folds.{tally-next, all-at}
 use Rattle.trees.specs.Layout.{Elements}
 use Rattle.device.specs.Device.{columnOf}
 use Rattle.meaning.proofs.Ordering.{pushed, count-none}

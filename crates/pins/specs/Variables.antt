@@ -1,10 +1,10 @@
 -- The variables of truth tables, in their two orders (document 01, "The device": the columns; "From equation to rows": the order of rows, and the
 -- product question). Assumes nothing.
-use mathlib.Core.Bool.{Bool, true, false}
+use mathlib.Core.Bool.{Bool}
 use mathlib.Core.List.{List, [], _∷_, _++_}
 use Prim.Native.Nat.{ℕ, zero, suc, _+_, _-_, _^_}
 use lib.ListN.{getD}
-use Rattle.basics.specs.Choice.{pick, bit}
+use Rattle.basics.specs.Choice.{pick}
 use Rattle.basics.specs.Below.{tally}
 use Rattle.trees.specs.Layout.{Elements}
 use Rattle.device.specs.Device.{columnOf}
