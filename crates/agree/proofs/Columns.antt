@@ -70,11 +70,11 @@ column-cell p t = column p (go (isIn p) (isCell p) t)
 
 -- its variable is 21 less the number of its pair
 pub variable-pin : (p : ℕ) → Column p → variablePin true (21 - pairOf p) ≡ p
-unfolding variablePin columnOf
+unfolding variablePin
 variable-pin p c = let h = c .few in let q : 21 - (21 - pairOf p) ≡ pairOf p = omega arith in ap columnOf q ∙ c .pin
 
 back : (i : ℕ) → i < 22 → 21 - pairOf (variablePin true i) ≡ i
-unfolding allBelow pairOf variablePin
+unfolding allBelow pairOf variablePin columnOf
 back i h = eqb-true (21 - pairOf (variablePin true i)) i (all-at (λ i. eqb (21 - pairOf (variablePin true i)) i) 22 refl i h)
 
 -- each variable has a pin of its own

@@ -24,7 +24,7 @@ use Rattle.gal.specs.Refuse.{callers, wrong, wrongPins, wrongBits, noValues}
 use Rattle.gal.specs.Model.{modelled}
 use Rattle.gal.specs.declared.Answer.{Answer}
 use Rattle.gal.specs.declared.Verdict.the-variants.{Shown}
-use Rattle.behave.specs.Circuit.{inUse, holds, value, signalOf, settingFor, shownOf, valueOf, nextOf, answerOf}
+use Rattle.behave.specs.Cells.{inUse, holds, value, signalOf, settingFor, shownOf, valueOf, nextOf, answerOf}
 use Rattle.behave.proofs.Emitted.{none-of}
 use Rattle.behave.proofs.Behaves.{held-is, use-is, behaves}
 use Rattle.outputs.specs.Outputs.{outOf, kindOf, cellsOf, masksOf, countsOf, kindsOf, s0sOf, mapFor}

@@ -10,7 +10,7 @@ use lib.ListN.{length, getD, drop}
 use borrow.Author.Tests.{lt-ltb, ltb-true, eq-eqb}
 use Rattle.basics.specs.Choice.{pick, xor}
 use Rattle.basics.specs.Below.{anyBelow}
-use Rattle.basics.proofs.Truth.{clash, of-true, true-of, or-cases, or-l, or-r, and-i, and-l, and-r}
+use Rattle.basics.proofs.Truth.{clash, of-true, true-of, or-l, or-r, and-i}
 use Rattle.basics.proofs.Store.{below-or-not}
 use Rattle.basics.proofs.Folds.{any-hit}
 use Rattle.trees.specs.Machine.{run, step, gate, nodeValue, arity, valueOf}
@@ -21,7 +21,7 @@ use Rattle.meaning.specs.Meaning.{known, value, meaning, showsNext, takesNext}
 use Rattle.meaning.proofs.Unique.{value-same, value-leaf}
 use Rattle.pins.specs.Named.{mentions, mentionsAt, namesPin}
 use Rattle.pins.proofs.Resting.{mentions-written, mentions-next}
-use Rattle.agree.proofs.Basic.{any-some, under, and-first, and-second}
+use Rattle.agree.proofs.Basic.{under, and-first, and-second}
 
 -- ---- a REG of two parts is where keeps finds it
 

@@ -23,8 +23,8 @@ use Rattle.device.specs.Device.{columnOf}
 use Rattle.fit.specs.Fit.{fitted, refused as noProducts}
 use Rattle.fit.specs.declared.Fitted.{Fitted}
 use Rattle.gal.specs.Map.{isCell}
-use Rattle.behave.specs.Circuit.{code, inUse, holds, Fits, Grounded, spoken}
-use Rattle.behave.specs.Circuit.Kind.{unused, combinational, registered}
+use Rattle.behave.specs.Cells.{code, inUse, holds, Fits, Grounded, spoken}
+use Rattle.behave.specs.Cells.Kind.{unused, combinational, registered}
 use Rattle.outputs.specs.Outputs.{outOf, kindOf, tableOf, cellsOf, fittedOut, tooMany, misfits, stageSix, cellOf, masksOf, countsOf, kindsOf, s0sOf}
 use Rattle.agree.specs.Passed.{Passed}
 use Rattle.agree.proofs.Basic.{ten-at, and-first, and-second, not-false}
@@ -137,7 +137,7 @@ module _ (e : Elements) (ok : Passed e) where
       (λ i. (ltb 1 x && ltb x 12) || (eqb x 13 || (c i && h i))) ∙ ap (λ (b : Bool). (ltb 1 x && ltb x 12) || b) (or-true (eqb x 13)) ∙ or-true (ltb 1 x && ltb x 12)
 
   column-is : (i : ℕ) → variablePin true i ≡ columnOf (21 - i)
-  unfolding variablePin columnOf
+  unfolding variablePin
   column-is i = refl
 
   -- THE THEOREM: the cells in use name inputs and registers only

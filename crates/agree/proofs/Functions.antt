@@ -20,7 +20,7 @@ use Rattle.pins.specs.Named.{namesPin}
 use Rattle.pins.specs.Variables.{variablePin, namesVariable, variablesOf, countOf}
 use Rattle.tables.specs.Tables.{flipAt, settingAt, entryOf}
 use Rattle.device.specs.Device.{pairOf}
-use Rattle.behave.specs.Circuit.{inUse, value}
+use Rattle.behave.specs.Cells.{inUse, value}
 use Rattle.outputs.specs.Outputs.{outOf, kindOf, tableOf, cellsOf}
 use Rattle.agree.specs.Passed.{Passed}
 use Rattle.agree.specs.Pins.{pinsAt}

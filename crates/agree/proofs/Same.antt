@@ -21,10 +21,10 @@ use Rattle.device.specs.Device.{columnOf, pairOf}
 use Rattle.rows.specs.Setting.{settingOf as variablesFor}
 use Rattle.rows.proofs.Rows.{setting-at, setting-size}
 use Rattle.gal.specs.Map.{isCell}
-use Rattle.behave.specs.Circuit.{Kind, inUse, holds, value, Same}
-use Rattle.behave.specs.Circuit.Kind.{unused, combinational, registered}
+use Rattle.behave.specs.Cells.{Kind, inUse, holds, value, Same}
+use Rattle.behave.specs.Cells.Kind.{unused, combinational, registered}
 use Rattle.behave.proofs.Behaves.{held-used}
-use Rattle.behave.proofs.Canon.{same-map, same-circuit}
+use Rattle.behave.proofs.Canon.{same-map, same-cells}
 use Rattle.outputs.specs.Outputs.{outOf, kindOf, cellsOf, masksOf, countsOf, kindsOf, s0sOf, mapFor}
 use Rattle.agree.specs.Passed.{Passed}
 use Rattle.agree.specs.Pins.{pinsAt}
@@ -194,4 +194,4 @@ module _ (e d : Elements) (ok : Passed e) (fine : Passed d) where
   unfolding mapFor
   circuit-of-map m =
       circuits-same
-      (same-circuit (cellsOf e) (cellsOf d) (masksOf e) (countsOf e) (kindsOf e) (s0sOf e) (masksOf d) (countsOf d) (kindsOf d) (s0sOf d) (fits e ok) (fits d fine) m)
+      (same-cells (cellsOf e) (cellsOf d) (masksOf e) (countsOf e) (kindsOf e) (s0sOf e) (masksOf d) (countsOf d) (kindsOf d) (s0sOf d) (fits e ok) (fits d fine) m)

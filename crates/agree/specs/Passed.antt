@@ -1,6 +1,6 @@
 -- A module's elements that stages 5 and 6 let pass (document 01, "Refusal numbers"). Assumes nothing.
 use mathlib.Core.Path.{_≡_}
-use Prim.Native.Nat.{ℕ, _≤_, _<_}
+use Prim.Native.Nat.{ℕ, _≤_}
 use Rattle.trees.specs.Layout.{Elements}
 use Rattle.circuit.specs.StageFive.{stageFive}
 use Rattle.circuit.specs.StageFive.Verdict.{fine}

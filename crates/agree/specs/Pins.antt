@@ -1,4 +1,4 @@
--- Between the device's signals and a module's pins (document 01, "The device": feedback, the caller's pins; READINGS 40). Assumes nothing.
+-- Between the device's signals and a module's pins (document 01, "The device": feedback, the caller's pins; decision 40). Assumes nothing.
 use mathlib.Core.Bool.{Bool, true, false, not, _&&_, _||_}
 use mathlib.Core.List.{List}
 use Prim.Native.Nat.{ℕ, _+_, _-_}

@@ -3,8 +3,8 @@ use mathlib.Core.Path.{_≡_, refl, sym, ap, _∙_, subst}
 use mathlib.Core.Bool.{Bool, true, false}
 use mathlib.Core.List.{List}
 use Prim.Native.Nat.{ℕ, _^_, _≤_, _<_}
-use lib.Dec.{leb, ltb}
-use lib.ListN.{length, replicate, length-replicate}
+use lib.Dec.{ltb}
+use lib.ListN.{length, replicate}
 use borrow.Author.Tests.{le-leb, lt-leb}
 use Rattle.basics.specs.Choice.{pick}
 use Rattle.trees.specs.Layout.{Elements, elementsOf}
@@ -18,7 +18,8 @@ use Rattle.outputs.specs.Outputs.{stageSix}
 use Rattle.question.specs.declared.Asked.{Asked}
 use Rattle.question.specs.declared.Asked.the-variants.{Verdict as Judged, Refused as Refuses}
 use Rattle.question.specs.Question.{questionTable, askedOf, asked}
-use Rattle.texts.specs.Stages.{Front, stays, refused, unless, frontOf, fitting, wholeOf}
+use Rattle.texts.specs.Stages.{Front, stays, refused, unless, frontOf, wholeOf}
+use Rattle.texts.proofs.Calling.{zeros-length, zeros-twice, whole-stays, whole-refused}
 use Rattle.askcall.specs.declared.Graded.{Graded}
 use Rattle.askcall.specs.declared.Graded.the-variants.{Refused}
 use Rattle.askcall.specs.Asking.{gradeOf, questioned, gradedOf, Does, Asks}
@@ -61,15 +62,6 @@ names-answer e pin product a r q w = ap gradeOf (w ∙ ap named q) ∙ named-ask
 
 -- ---- the room
 
-zeros-length : (room z : List ℕ) → z ≡ replicate (length room) 0 → length z ≡ length room
-zeros-length room z e = ap length e ∙ length-replicate (length room) 0
-
-pub zeros-again : (room z : List ℕ) → z ≡ replicate (length room) 0 → z ≡ replicate (length z) 0
-zeros-again room z e = e ∙ ap (λ (n : ℕ). replicate n 0) (sym (zeros-length room z e))
-
-pub zeros-twice : (room z y : List ℕ) → z ≡ replicate (length room) 0 → y ≡ replicate (length z) 0 → y ≡ replicate (length room) 0
-zeros-twice room z y e w = w ∙ ap (λ (n : ℕ). replicate n 0) (zeros-length room z e)
-
 pub zeros-long : (k : ℕ) (room z : List ℕ) → z ≡ replicate (length room) 0 → k ≤ length room → k ≤ length z
 zeros-long k room z e h = subst (λ (n : ℕ). k ≤ n) (sym (zeros-length room z e)) h
 
@@ -86,14 +78,6 @@ pub asked-misfits : (parts : List ℕ) (pin product : ℕ) (room : List ℕ) (n 
 asked-misfits parts pin product room n p y six z = record { answers = ap (λ (v : Verdict). questioned pin product (unless v parts)) six; clears = z }
 
 -- ---- stages 1 to 5
-
-whole-stays : (s parts : List ℕ) → stays parts ≡ frontOf s → unless (stageSix (elementsOf parts)) parts ≡ wholeOf s
-unfolding wholeOf
-whole-stays s parts e = ap fitting e
-
-whole-refused : (s : List ℕ) (n p : ℕ) → refused n p ≡ frontOf s → refused n p ≡ wholeOf s
-unfolding wholeOf
-whole-refused s n p e = ap fitting e
 
 pub text-stays : (s parts : List ℕ) (pin product : ℕ) (room : List ℕ) (a : Graded) (y : List ℕ) → stays parts ≡ frontOf s
     → Does (questioned pin product (unless (stageSix (elementsOf parts)) parts)) room a y → Does (questioned pin product (wholeOf s)) room a y

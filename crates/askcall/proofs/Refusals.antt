@@ -1,11 +1,10 @@
 -- A grader that breaks the promise. Assumes nothing.
-use mathlib.Core.Path.{_≡_, sym, _∙_, subst}
+use mathlib.Core.Path.{_≡_, _∙_, subst}
 use mathlib.Core.List.{List}
 use Prim.Native.Nat.{ℕ}
 use Rattle.question.specs.declared.Asked.{Asked}
 use Rattle.question.specs.declared.Asked.the-variants.{Verdict, Refused as Refuses}
-use Rattle.askcall.specs.declared.Graded.{Graded}
-use Rattle.askcall.specs.declared.Graded.the-variants.{NoImplicant, Implicant, Prime, Refused}
+use Rattle.askcall.specs.declared.Graded.the-variants.{Refused}
 use Rattle.askcall.specs.Asking.{gradedOf, Asks}
 use lib.ListN.{length}
 

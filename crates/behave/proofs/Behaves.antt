@@ -1,30 +1,28 @@
 -- The model of the emitted map shows on each pin what its cell's function says, and clocks each register to what its function says.
 -- Assumes nothing.
-use mathlib.Core.Path.{_≡_, refl, sym, ap, ap₂, _∙_, subst}
-use mathlib.Core.Bool.{Bool, true, false, not, _&&_, _||_}
-use mathlib.Core.List.{List, [], _∷_}
-use Prim.Native.Nat.{ℕ, _+_, _-_, _≤_, _<_}
+use mathlib.Core.Path.{_≡_, refl, ap, _∙_}
+use mathlib.Core.Bool.{Bool, true, false, not, _&&_}
+use mathlib.Core.List.{List, []}
+use Prim.Native.Nat.{ℕ, _+_, _-_, _<_}
 use native.Mathlib.Omega.{arith}
 use lib.Dec.{T, ltb, ltb→lt}
 use lib.ListN.{length, getD}
 use Rattle.basics.specs.Choice.{bit, on, pick, xor}
-use Rattle.basics.specs.Below.{listed}
 use Rattle.basics.proofs.Folds.{listed-same, listed-length}
-use Rattle.basics.proofs.Truth.{and-l, and-r, of-true, clash}
+use Rattle.basics.proofs.Truth.{and-l, and-r, of-true}
 use Rattle.cover.specs.Sum.{over}
 use Rattle.fit.specs.Fit.{opposite}
 use Rattle.device.specs.Device.{columnOf}
 use Rattle.rows.specs.Setting.{settingOf}
-use Rattle.gal.specs.Map.{plainOut, registered, enabled, isCell, signal, signals, total}
-use Rattle.gal.specs.Refuse.{noMap, outside, noValues}
+use Rattle.gal.specs.Map.{registered, enabled, isCell, signal, signals, total}
+use Rattle.gal.specs.Refuse.{noValues}
 use Rattle.gal.specs.Show.{shownAt, cellValue, valueAt, shownPins, valuePins}
 use Rattle.gal.specs.Clock.{nextAt, nextBits}
 use Rattle.gal.specs.Model.{refusal, answered, modelled}
-use Rattle.gal.specs.declared.Answer.{Answer}
 use Rattle.gal.specs.declared.Verdict.the-variants.{Shown}
-use Rattle.cells.specs.Map.{used, clocked, mapOf}
-use Rattle.behave.specs.Circuit.{Kind, inUse, holds, Circuit, value, Fits, Grounded, signalOf, settingFor, shows, shownOf, valueOf, nextOf, answerOf}
-use Rattle.behave.specs.Circuit.Kind.{unused, combinational, registered as register}
+use Rattle.cells.specs.Map.{mapOf}
+use Rattle.behave.specs.Cells.{Kind, inUse, holds, Cells, value, Fits, Grounded, signalOf, settingFor, shows, shownOf, valueOf, nextOf, answerOf}
+use Rattle.behave.specs.Cells.Kind.{unused, combinational, registered as register}
 use Rattle.behave.proofs.Emitted.{enabled-is, registered-is, plain-is}
 use Rattle.behave.proofs.Chosen.{used-is, clocked-is, inRows, Chosen}
 use Rattle.behave.proofs.Sum.{total-is}
@@ -57,7 +55,7 @@ turn false named f t = twice (over named f t)
     twice true = refl
     twice false = refl
 
-module _ (c : Circuit) (all : List (List ℕ)) (counts kinds s0s : List ℕ) (w : Fits c all counts kinds s0s) where
+module _ (c : Cells) (all : List (List ℕ)) (counts kinds s0s : List ℕ) (w : Fits c all counts kinds s0s) where
   pub held-is : (k : ℕ) → k < 10 → registered (mapOf all counts kinds s0s) k ≡ holds (c .kind k)
   held-is k h = registered-is all counts kinds s0s k h ∙ clocked-is kinds k (c .kind k) (w .kinds-are k h)
 
@@ -72,7 +70,7 @@ module _ (c : Circuit) (all : List (List ℕ)) (counts kinds s0s : List ℕ) (w 
       ap (λ (b : Bool). pick b (not (on (getD bits (x - 14) 0))) (on (getD pins (x - 1) 0)))
       (under (isCell x) (registered (mapOf all counts kinds s0s) (23 - x)) (holds (c .kind (23 - x))) (λ e. held-is (23 - x) (cell-low x e)))
 
-  -- the setting of the model's signals is that of the circuit
+  -- the setting of the model's signals is that of the cells
   pub setting-is : (bits pins : List ℕ) → settingOf (signals (mapOf all counts kinds s0s) bits pins) ≡ settingFor c bits pins
   unfolding signals settingFor
   setting-is bits pins =

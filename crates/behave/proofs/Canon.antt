@@ -1,34 +1,30 @@
--- The same circuit has the same map, and the same map is of the same circuit.
+-- The same cells have the same map, and the same map is of the same cells.
 -- Assumes nothing.
 use mathlib.Core.Path.{_≡_, refl, sym, ap, ap₂, _∙_, subst}
-use mathlib.Core.Logic.{_⊎_, inl, inr, ⊎-elim}
-use mathlib.Core.Bool.{Bool, true, false, not, _&&_, _||_}
+use mathlib.Core.Bool.{Bool, true, false, not, _||_}
 use mathlib.Core.List.{List, [], _∷_, _++_, append-nil}
-use Prim.Native.Nat.{ℕ, zero, suc, _+_, _-_, _*_, _/_, _%_, _≤_, _<_}
+use Prim.Native.Nat.{ℕ, _+_, _-_, _/_, _%_, _<_}
 use native.Mathlib.Omega.{arith}
 use borrow.Author.Tests.{ltb-true}
-use lib.Dec.{eqb, leb, ltb}
+use lib.Dec.{eqb, ltb}
 use lib.ListN.{length, getD, replicate}
 use Rattle.basics.specs.Choice.{bit, on, pick, xor}
-use Rattle.basics.specs.Below.{listed}
 use Rattle.basics.proofs.Folds.{listed-same}
 use Rattle.basics.proofs.Truth.{clash}
-use Rattle.sums.specs.Product.{Digit}
 use Rattle.sums.proofs.Named.{primes-ext}
 use Rattle.cover.specs.Sum.{over}
 use Rattle.device.specs.Device.{enableOf}
 use Rattle.fit.specs.Fit.{primesOf, fits, taken, refused, opposite, inverted, fitted}
 use Rattle.fit.specs.declared.Fitted.{Fitted}
-use Rattle.rows.specs.Row.{productRow}
 use Rattle.rows.specs.Setting.{settingFrom, settingOf}
 use Rattle.gal.specs.Map.{plainOut, registered, enabled, total}
 use Rattle.gal.specs.Show.{cellValue}
-use Rattle.cells.specs.Map.{used, clocked, cellRow, cellAt, rowAt, rowFuse, s0Fuse, s1Fuse, switchFuse, fuseAt, mapOf}
+use Rattle.cells.specs.Map.{used, clocked, cellRow, cellAt, rowAt, s0Fuse, switchFuse, fuseAt, mapOf}
 use Rattle.cells.proofs.Writing.{few-cells}
-use Rattle.behave.specs.Circuit.{Kind, code, inUse, holds, Circuit, value, Fits, shows, Same}
-use Rattle.behave.specs.Circuit.Kind.{unused, combinational, registered as register}
+use Rattle.behave.specs.Cells.{Kind, inUse, holds, Cells, value, Fits, Same}
+use Rattle.behave.specs.Cells.Kind.{unused, combinational, registered as register}
 use Rattle.behave.proofs.Emitted.{plain-is}
-use Rattle.behave.proofs.Chosen.{used-is, clocked-is, inRows, Chosen}
+use Rattle.behave.proofs.Chosen.{used-is, clocked-is, inRows}
 use Rattle.behave.proofs.Within.{choice}
 use Rattle.behave.proofs.Behaves.{held-used, held-is, use-is, sum-is, cell-shows}
 
@@ -97,8 +93,8 @@ no-row : (n : ℕ) (masks : List ℕ) (a : ℕ) → cellRow false n masks a ≡ 
 unfolding cellRow
 no-row n masks a = refl
 
-module _ (c d : Circuit) (a₁ : List (List ℕ)) (n₁ k₁ s₁ : List ℕ) (a₂ : List (List ℕ)) (n₂ k₂ s₂ : List ℕ) (v : Fits c a₁ n₁ k₁ s₁) (w : Fits d a₂ n₂ k₂ s₂) where
-  -- ---- the same circuit, the same map
+module _ (c d : Cells) (a₁ : List (List ℕ)) (n₁ k₁ s₁ : List ℕ) (a₂ : List (List ℕ)) (n₂ k₂ s₂ : List ℕ) (v : Fits c a₁ n₁ k₁ s₁) (w : Fits d a₂ n₂ k₂ s₂) where
+  -- ---- the same cells, the same map
 
   fit-same : Same c d → (k : ℕ) → k < 10 → inUse (c .kind k) ≡ true
       → _≡_ {A = Fitted} (record { ok = true; s0 = on (getD s₁ k 0); n = getD n₁ k 0; masks = getD a₁ k [] }) (record { ok = true; s0 = on (getD s₂ k 0); n = getD n₂ k 0; masks = getD a₂ k [] })
@@ -152,7 +148,7 @@ module _ (c d : Circuit) (a₁ : List (List ℕ)) (n₁ k₁ s₁ : List ℕ) (a
   unfolding mapOf
   same-map e = listed-same (fuseAt a₁ n₁ k₁ s₁) (fuseAt a₂ n₂ k₂ s₂) 5892 (λ i h. fuse-same e i)
 
-  -- ---- the same map, the same circuit
+  -- ---- the same map, the same cells
 
   kinds-same : mapOf a₁ n₁ k₁ s₁ ≡ mapOf a₂ n₂ k₂ s₂ → (k : ℕ) → k < 10 → c .kind k ≡ d .kind k
   kinds-same e k h =
@@ -197,5 +193,5 @@ module _ (c d : Circuit) (a₁ : List (List ℕ)) (n₁ k₁ s₁ : List ℕ) (a
       subst (λ (t : List Bool). value c k t ≡ value d k t) (setting-back s) (at-signals e k h u (signalsFor [] s) (let z = signals-long s [] in omega arith))
 
   -- THE THEOREM: equal maps give equal kinds, starts and functions
-  pub same-circuit : mapOf a₁ n₁ k₁ s₁ ≡ mapOf a₂ n₂ k₂ s₂ → Same c d
-  same-circuit e = record { kinds = kinds-same e; starts = starts-same e; functions = functions-same e }
+  pub same-cells : mapOf a₁ n₁ k₁ s₁ ≡ mapOf a₂ n₂ k₂ s₂ → Same c d
+  same-cells e = record { kinds = kinds-same e; starts = starts-same e; functions = functions-same e }

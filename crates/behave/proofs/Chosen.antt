@@ -1,14 +1,14 @@
 -- What fitting chose for a cell, and the products that a cell of the emitted map then has.
 -- Assumes nothing.
-use mathlib.Core.Path.{_≡_, refl, sym, ap, ap₂, _∙_, subst}
-use mathlib.Core.Bool.{Bool, true, false, not, _&&_, _||_}
-use mathlib.Core.List.{List, [], _∷_, _++_, map}
-use Prim.Native.Nat.{ℕ, zero, suc, _+_, _-_, _*_, _≤_, _<_}
+use mathlib.Core.Path.{_≡_, refl, sym, ap, _∙_, subst}
+use mathlib.Core.Bool.{Bool, true, false, not, _||_}
+use mathlib.Core.List.{List, [], _∷_, map}
+use Prim.Native.Nat.{ℕ, zero, suc, _-_, _≤_, _<_}
 use native.Mathlib.Omega.{arith}
 use borrow.Author.Tests.{leb-true}
-use lib.Dec.{eqb, leb}
+use lib.Dec.{eqb}
 use lib.ListN.{length, getD, replicate, length-map, List·getD-append, List·getD-map}
-use Rattle.basics.specs.Choice.{on, pick}
+use Rattle.basics.specs.Choice.{pick}
 use Rattle.basics.proofs.Truth.{clash, true-of, of-true, and-l}
 use Rattle.sums.specs.Product.{Digit, prime, filter, products, primes}
 use Rattle.sums.specs.Named.{keep}
@@ -20,8 +20,8 @@ use Rattle.device.specs.Device.{productsOf}
 use Rattle.fit.specs.Fit.{primesOf, fits, taken, refused, opposite, inverted, fitted}
 use Rattle.fit.specs.declared.Fitted.{Fitted}
 use Rattle.cells.specs.Map.{used, clocked}
-use Rattle.behave.specs.Circuit.{Kind, code, inUse, holds, Circuit, Fits}
-use Rattle.behave.specs.Circuit.Kind.{unused, combinational, registered}
+use Rattle.behave.specs.Cells.{Kind, code, inUse, holds}
+use Rattle.behave.specs.Cells.Kind.{unused, combinational, registered}
 
 -- ---- kinds
 

@@ -1,27 +1,25 @@
 -- The counts of a fit line, by the rows that are emitted, are those of the cell's masks; and the rows of a cell stand in their order.
 -- Assumes nothing.
-use mathlib.Core.Path.{_≡_, refl, sym, ap, ap₂, _∙_, subst}
-use mathlib.Core.Logic.{_⊎_, inl, inr, ⊎-elim}
+use mathlib.Core.Path.{_≡_, refl, sym, ap, ap₂, _∙_}
+use mathlib.Core.Logic.{⊎-elim}
 use mathlib.Core.Bool.{Bool, true, false, not}
-use mathlib.Core.List.{List, [], _∷_, _++_, map}
-use Prim.Native.Nat.{ℕ, zero, suc, _+_, _-_, _*_, _%_, _≤_, _<_}
-use native.Mathlib.Nat.{eq-or-lt-of-le, le-of-suc-le-suc}
+use mathlib.Core.List.{List, [], _∷_, map}
+use Prim.Native.Nat.{ℕ, zero, suc, _+_, _-_, _%_, _≤_, _<_}
+use native.Mathlib.Nat.{eq-or-lt-of-le}
 use native.Mathlib.Omega.{arith}
 use lib.Count.{ones}
 use borrow.Author.Tests.{eq-eqb}
 use lib.Dec.{eqb, eqb→eq}
-use lib.ListN.{length, getD, take, replicate, length-map, List·getD-map}
+use lib.ListN.{length, getD, take, replicate, length-map}
 use lib.Seq.{take-at, ext-getD}
 use Rattle.basics.specs.Choice.{bit, on as true-bit, pick}
 use Rattle.basics.specs.Below.{tally, listed}
 use Rattle.basics.proofs.Folds.{all-at, listed-at, listed-length}
 use Rattle.basics.proofs.Truth.{of-true}
-use Rattle.basics.proofs.Store.{below-or-not}
-use Rattle.sums.specs.Product.{Digit, factor, factors}
+use Rattle.sums.specs.Product.{Digit, factors}
 use Rattle.sums.specs.Product.Digit.{off, on, absent}
 use Rattle.sums.specs.Order.{columns, before, Rising}
-use Rattle.sums.specs.Order.Rising.{none, one, more}
-use Rattle.sums.proofs.Named.{Each}
+use Rattle.sums.specs.Order.Rising.{one, more}
 use Rattle.cover.specs.Mask.{mask}
 use Rattle.cover.specs.Sum.{over, padded}
 use Rattle.cover.proofs.Canon.{ones-mask}
@@ -30,12 +28,12 @@ use Rattle.fit.specs.Fit.{primesOf}
 use Rattle.rows.specs.Row.{joins, productRow}
 use Rattle.rows.proofs.Rows.{product-length}
 use Rattle.gal.specs.Map.{fuse, rowIs}
-use Rattle.cells.specs.Map.{used, mapOf}
+use Rattle.cells.specs.Map.{mapOf}
 use Rattle.cells.specs.Counts.{productsIn, sumBelow, factorsIn, picks}
-use Rattle.behave.specs.Circuit.{inUse, holds, Circuit, Fits}
+use Rattle.behave.specs.Cells.{inUse, holds, Cells, Fits}
 use Rattle.behave.proofs.Meets.{mask-row, rows-rise}
-use Rattle.behave.proofs.Emitted.{row-all, row-not, rest-fuse}
-use Rattle.behave.proofs.Chosen.{inRows, Chosen, each-at, primes-wide}
+use Rattle.behave.proofs.Emitted.{row-all, rest-fuse}
+use Rattle.behave.proofs.Chosen.{inRows, each-at, primes-wide}
 use Rattle.behave.proofs.Within.{choice, prime-fuse}
 
 -- ---- counts over the numbers below n
@@ -156,7 +154,7 @@ rising-at (p ∷ q ∷ ps) (suc i) h (more x y e r) = rising-at (q ∷ ps) i (om
 
 -- ---- a cell of the emitted map
 
-module _ (c : Circuit) (all : List (List ℕ)) (counts kinds s0s : List ℕ) (w : Fits c all counts kinds s0s) (k : ℕ) (h : k < 10) (u : inUse (c .kind k) ≡ true) where
+module _ (c : Cells) (all : List (List ℕ)) (counts kinds s0s : List ℕ) (w : Fits c all counts kinds s0s) (k : ℕ) (h : k < 10) (u : inUse (c .kind k) ≡ true) where
   -- the primes whose rows the cell has
   ps : List (List Digit)
   ps = primesOf (c .named k) (inRows (holds (c .kind k)) (true-bit (getD s0s k 0)) (c .function k))

@@ -1,26 +1,26 @@
 -- The model of the emitted map, run from power-up, answers cycle after cycle as the cells' functions do.
 -- Assumes nothing.
-use mathlib.Core.Path.{_≡_, refl, sym, ap, ap₂, _∙_, subst}
+use mathlib.Core.Path.{_≡_, refl, ap, ap₂, _∙_}
 use mathlib.Core.Bool.{Bool, true, false, not, _&&_, _||_}
 use mathlib.Core.List.{List, [], _∷_}
-use Prim.Native.Nat.{ℕ, _+_, _-_, _<_}
+use Prim.Native.Nat.{ℕ, _+_, _-_}
 use native.Mathlib.Omega.{arith}
 use lib.Dec.{eqb, ltb}
 use lib.ListN.{getD, replicate, getD-replicate}
-use Rattle.basics.specs.Choice.{bit, on}
-use Rattle.basics.specs.Below.{anyBelow, listed}
+use Rattle.basics.specs.Choice.{bit}
+use Rattle.basics.specs.Below.{listed}
 use Rattle.basics.proofs.Folds.{any-same, listed-at}
 use Rattle.sums.proofs.Named.{Each}
 use Rattle.gal.specs.Map.{registered, enabled, isCell}
 use Rattle.gal.specs.Refuse.{callers, wrong, wrongPins, wrongBits, noValues}
-use Rattle.gal.specs.Model.{modelled, runFrom, runs}
+use Rattle.gal.specs.Model.{runFrom, runs}
 use Rattle.gal.specs.declared.Answer.{Answer}
 use Rattle.cells.specs.Map.{mapOf}
-use Rattle.behave.specs.Circuit.{inUse, holds, Circuit, value, Fits, Grounded, settingFor, nextOf, answerOf, givable, refusedPins, cyclesOf}
+use Rattle.behave.specs.Cells.{inUse, holds, Cells, value, Fits, Grounded, settingFor, nextOf, answerOf, givable, refusedPins, cyclesOf}
 use Rattle.behave.proofs.Emitted.{none-of}
 use Rattle.behave.proofs.Behaves.{under, cell-low, held-is, use-is, behaves}
 
-module _ (c : Circuit) (all : List (List ℕ)) (counts kinds s0s : List ℕ) (w : Fits c all counts kinds s0s) where
+module _ (c : Cells) (all : List (List ℕ)) (counts kinds s0s : List ℕ) (w : Fits c all counts kinds s0s) where
   callers-is : (x : ℕ) → callers (mapOf all counts kinds s0s) x ≡ givable c x
   unfolding callers
   callers-is x =
@@ -28,7 +28,7 @@ module _ (c : Circuit) (all : List (List ℕ)) (counts kinds s0s : List ℕ) (w 
       (under (isCell x) (not (enabled (mapOf all counts kinds s0s) (23 - x)) && not (registered (mapOf all counts kinds s0s) (23 - x))) (not (inUse (c .kind (23 - x))) && not (holds (c .kind (23 - x))))
       (λ e. ap₂ (λ (a b : Bool). not a && not b) (use-is c all counts kinds s0s w (23 - x) (cell-low x e)) (held-is c all counts kinds s0s w (23 - x) (cell-low x e))))
 
-  -- the model takes the pin values that the circuit takes
+  -- the model takes the pin values that the cells take
   pub pins-are : (pins : List ℕ) → wrongPins (mapOf all counts kinds s0s) pins ≡ refusedPins c pins
   unfolding wrongPins refusedPins
   pins-are pins =

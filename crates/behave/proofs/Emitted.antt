@@ -1,22 +1,20 @@
 -- The emitted map, row by row and switch by switch.
 -- Assumes nothing.
 use mathlib.Core.Path.{_≡_, refl, sym, ap, ap₂, _∙_, subst}
-use mathlib.Core.Logic.{_⊎_, inl, inr, ⊎-elim}
 use mathlib.Core.Bool.{Bool, true, false, not, _&&_, _||_}
 use mathlib.Core.List.{List, [], _∷_}
 use Prim.Native.Nat.{ℕ, zero, suc, _+_, _-_, _*_, _/_, _%_, _≤_, _<_}
 use native.Mathlib.Omega.{arith}
-use borrow.Author.Tests.{lt-ltb, le-ltb, le-leb, lt-leb, eq-eqb, ne-eqb, leb-true}
+use borrow.Author.Tests.{lt-ltb, le-ltb, le-leb, eq-eqb, ne-eqb, leb-true}
 use lib.Dec.{eqb, leb, ltb}
 use lib.ListN.{length, getD, replicate, getD-replicate}
 use Rattle.basics.specs.Choice.{bit, on, pick}
-use Rattle.basics.specs.Below.{anyBelow, allBelow, listed}
-use Rattle.basics.proofs.Folds.{all-miss, any-same, all-same, listed-at, listed-length}
-use Rattle.basics.proofs.Store.{below-or-not}
+use Rattle.basics.specs.Below.{anyBelow, allBelow}
+use Rattle.basics.proofs.Folds.{all-miss, all-same, listed-at, listed-length}
 use Rattle.device.specs.Device.{enableOf, productsOf}
 use Rattle.device.proofs.Rule.{rows-after, rows-fit}
-use Rattle.rows.specs.Row.{plainFuse, inverseFuse, pairsFrom, productRow, trueRow, deadRow, pairTrue, joins}
-use Rattle.gal.specs.Map.{fuse, rowIs, plainOut, registered, enabled, rowTrue}
+use Rattle.rows.specs.Row.{plainFuse, inverseFuse, pairsFrom, productRow, trueRow, pairTrue}
+use Rattle.gal.specs.Map.{fuse, rowIs, plainOut, registered, enabled}
 use Rattle.cells.specs.Map.{used, clocked, cellRow, cellAt, rowAt, rowFuse, s0Fuse, s1Fuse, switchFuse, fuseAt, mapOf}
 use Rattle.cells.proofs.Writing.{cell-of}
 

@@ -3,10 +3,10 @@
 use mathlib.Core.Path.{_≡_, refl, sym, ap, ap₂, _∙_, subst}
 use mathlib.Core.Bool.{Bool, true, false, not, _&&_, _||_}
 use mathlib.Core.List.{List, [], _∷_, map}
-use Prim.Native.Nat.{ℕ, zero, suc, _+_, _-_, _*_, _/_, _%_, _≤_, _<_}
+use Prim.Native.Nat.{ℕ, suc, _+_, _*_, _/_, _%_}
 use native.Mathlib.Omega.{arith}
 use lib.ListN.{length, getD}
-use Rattle.basics.specs.Choice.{bit, on as true-bit, xor}
+use Rattle.basics.specs.Choice.{on as true-bit, xor}
 use Rattle.sums.specs.Product.{Digit, covers, allows, primes, factor}
 use Rattle.sums.specs.Product.Digit.{off, on, absent}
 use Rattle.sums.specs.Order.{columns, Rising}

@@ -1,20 +1,20 @@
 -- The sum of a cell of the emitted map is the function of its rows.
 -- Assumes nothing.
-use mathlib.Core.Path.{_≡_, refl, sym, ap, ap₂, _∙_, subst}
-use mathlib.Core.Bool.{Bool, true, false, not, _&&_, _||_}
+use mathlib.Core.Path.{_≡_, refl, sym, ap, ap₂, _∙_}
+use mathlib.Core.Bool.{Bool, true, false, _||_}
 use mathlib.Core.List.{List, [], _∷_}
-use Prim.Native.Nat.{ℕ, zero, suc, _+_, _*_, _≤_, _<_}
+use Prim.Native.Nat.{ℕ, zero, suc, _+_, _≤_, _<_}
 use native.Mathlib.Omega.{arith}
 use lib.ListN.{length, getD}
 use Rattle.basics.specs.Choice.{on}
 use Rattle.basics.specs.Below.{anyBelow}
-use Rattle.sums.specs.Product.{Digit, covers, any, primes}
+use Rattle.sums.specs.Product.{Digit, covers, any}
 use Rattle.sums.proofs.Complete.{complete}
 use Rattle.cover.specs.Mask.{mask}
 use Rattle.cover.specs.Sum.{over}
 use Rattle.device.specs.Device.{enableOf, productsOf}
 use Rattle.fit.specs.Fit.{primesOf}
-use Rattle.rows.specs.Row.{trueRow, productRow}
+use Rattle.rows.specs.Row.{productRow}
 use Rattle.rows.specs.Setting.{settingOf}
 use Rattle.rows.proofs.Rows.{dead-false, zero-dead, setting-size}
 use Rattle.gal.specs.Map.{fuse, rowTrue, total}

@@ -7,11 +7,10 @@ use mathlib.Core.Bool.{Bool, true, false, not, _&&_, _||_}
 use mathlib.Core.List.{List, [], _∷_}
 use Prim.Native.Nat.{ℕ, zero, suc, _+_, _-_, _*_, _≤_, _<_}
 use native.Mathlib.Omega.{arith}
-use borrow.Author.Tests.{lt-ltb, le-ltb, eq-eqb, ne-eqb, ltb-true}
-use lib.Dec.{T, eqb, ltb, ltb→lt, eqb→eq}
+use borrow.Author.Tests.{lt-ltb, le-ltb, eq-eqb, ne-eqb}
+use lib.Dec.{eqb, ltb, ltb→lt, eqb→eq}
 use lib.ListN.{length, getD}
-use Rattle.basics.specs.Choice.{bit, on as true-bit, pick}
-use Rattle.basics.specs.Below.{anyBelow, listed}
+use Rattle.basics.specs.Choice.{bit, on as true-bit}
 use Rattle.basics.proofs.Folds.{listed-at}
 use Rattle.basics.proofs.Store.{below-or-not}
 use Rattle.basics.proofs.Truth.{and-l, and-r, or-cases, of-true, true-of, clash, and-false}
@@ -25,12 +24,12 @@ use Rattle.cover.proofs.Canon.{wanted-bit}
 use Rattle.cover.proofs.Joining.{bits-length}
 use Rattle.device.specs.Device.{enableOf, productsOf, columnOf}
 use Rattle.fit.specs.Fit.{primesOf}
-use Rattle.rows.specs.Row.{joins, productRow, deadRow}
+use Rattle.rows.specs.Row.{joins, productRow}
 use Rattle.rows.proofs.Rows.{zero-dead}
 use Rattle.gal.specs.Map.{fuse, rowIs, registered, enabled, isCell}
 use Rattle.gal.specs.Refuse.{noMap, dead, forbidden, forbiddenPairs, reads, strays, straysCell, cellFaulty, badEnable, outside}
-use Rattle.cells.specs.Map.{used, clocked, mapOf}
-use Rattle.behave.specs.Circuit.{Kind, code, inUse, holds, Circuit, Fits, spoken, Grounded}
+use Rattle.cells.specs.Map.{used, mapOf}
+use Rattle.behave.specs.Cells.{inUse, holds, Cells, Fits, spoken, Grounded}
 use Rattle.behave.proofs.Meets.{push, push-columns, mask-row}
 use Rattle.behave.proofs.Emitted.{none-of, row-all, map-size, fuse-small, reset-zero, preset-zero, enabled-is, enable-zero, registered-is, product-fuse, rest-fuse}
 use Rattle.behave.proofs.Chosen.{used-is, clocked-is, inRows, Chosen, chosen, each-at, mask-at, primes-clean, primes-wide}
@@ -89,7 +88,7 @@ clean-absent (false ∷ m) (absent ∷ p) (suc i) t e h = clean-absent m p i t e
 
 -- ---- a pin that an equation may speak of is not forbidden
 
-module _ (c : Circuit) (all : List (List ℕ)) (counts kinds s0s : List ℕ) (w : Fits c all counts kinds s0s) where
+module _ (c : Cells) (all : List (List ℕ)) (counts kinds s0s : List ℕ) (w : Fits c all counts kinds s0s) where
   low-free : (x : ℕ) → 1 < x → x < 14 → forbidden (mapOf all counts kinds s0s) x ≡ false
   unfolding forbidden
   low-free x h l = simp (ne-eqb x 1 (λ e. omega arith), le-ltb 13 x (omega arith))

@@ -1,4 +1,4 @@
--- What a fit line counts (document 01, "The fuse file", on the fit program; READINGS 31), by the rows that were emitted.
+-- What a fit line counts (document 01, "The fuse file", on the fit program; decision 31), by the rows that were emitted.
 -- Assumes nothing.
 use mathlib.Core.Bool.{Bool, not}
 use mathlib.Core.List.{List, [], _∷_}

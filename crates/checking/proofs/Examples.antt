@@ -1,7 +1,7 @@
--- Worked examples of stage 2, computed (READINGS 7 to 13).
+-- Worked examples of stage 2, computed (decisions 7 to 13).
 -- Assumes nothing.
 use mathlib.Core.Path.{_≡_, refl}
-use mathlib.Core.List.{List, [], _∷_}
+use mathlib.Core.List.{[]}
 use Prim.Native.Nat.{ℕ}
 use Rattle.basics.specs.Text.{text}
 use Rattle.words.specs.Bytes.{isBlank, isLetter, isDigit, isSingle, isPair, turnOf}

@@ -1,11 +1,11 @@
 -- No second answer fits the promise of stage 2: what is seen of an answer says the answer.
 -- Assumes nothing.
-use mathlib.Core.Path.{_≡_, refl, sym, ap, ap₂, _∙_}
+use mathlib.Core.Path.{_≡_, sym, ap, ap₂, _∙_}
 use mathlib.Core.List.{List}
 use Prim.Native.Nat.{ℕ}
 use native.Mathlib.Omega.{arith}
 use Rattle.words.specs.declared.Cursor.{Cursor}
-use Rattle.grammar.specs.Outcome.{Outcome, ok, no}
+use Rattle.grammar.specs.Outcome.{ok, no}
 use Rattle.grammar.specs.Modules.{Module}
 use Rattle.grammar.specs.Forms.{checkedText}
 use Rattle.checking.specs.Seen.{seenText}

@@ -13,7 +13,7 @@ use Rattle.words.specs.Words.{nextWord}
 use Rattle.grammar.specs.Outcome.{Outcome, ok, no, more, last, onWord, andThen}
 use Rattle.grammar.specs.Grammar.{closed}
 use Rattle.grammar.specs.Trees.{checks}
-use Rattle.grammar.specs.Modules.{must, repeat, repeated, constantTurn, nameTurn, nameList, listTurn}
+use Rattle.grammar.specs.Modules.{must, repeated, constantTurn, nameTurn, nameList, listTurn}
 use Rattle.grammar.specs.Forms.{blank}
 use Rattle.grammar.proofs.Turns.{repeat-more, repeat-falls, repeat-last, past-constant, past-name, past-list}
 

@@ -4,7 +4,6 @@ use phrases::Go;
 use words::Cursor;
 use words::Taken;
 ghost use mathlib.Core.Path.{_≡_};
-ghost use Prim.Native.Nat.{_-_};
 ghost use Rattle.grammar.specs.Outcome.{levels};
 ghost use Rattle.grammar.specs.Grammar.{nested, part};
 ghost use Rattle.grammar.specs.Trees.{checks};
@@ -385,7 +384,13 @@ fn name_again(text: &[u8], start: usize, end: usize, from: Cursor) -> Ended
             next,
         } => {
             if kind == 1 {
-                if names::same_name(text, start, span(start, end), p, span(p, next.at)) {
+                if names::same_name(
+                    text,
+                    start,
+                    basics::span(start, end),
+                    p,
+                    basics::span(p, next.at),
+                ) {
                     return Ended::Past { next };
                 }
                 return Ended::Refused {
@@ -400,12 +405,6 @@ fn name_again(text: &[u8], start: usize, end: usize, from: Cursor) -> Ended
         }
         Taken::Refused { number, place } => Ended::Refused { number, place },
     }
-}
-
-fn span(start: usize, end: usize) -> usize
-    ensures { λ r. ⌜ r ≡ end - start ⌝ }
-{
-    if start < end { end - start } else { 0 }
 }
 
 // `END name .` and the text's end.

@@ -1,4 +1,4 @@
--- Stage 5: all elements in declaration order, four times, for refusals 7, 8, 9 and 10 (document 01, "Refusal numbers" and their order; READINGS
+-- Stage 5: all elements in declaration order, four times, for refusals 7, 8, 9 and 10 (document 01, "Refusal numbers" and their order; decisions
 -- 24 to 26). Assumes nothing.
 use mathlib.Core.Bool.{Bool, true, false, not, _&&_, _||_}
 use Prim.Native.Nat.{ℕ, zero, suc}

@@ -1,16 +1,13 @@
 -- Demand 1, what a refusal leaves; and two compilers that break the promise. Assumes nothing.
-use mathlib.Core.Path.{_≡_, refl, sym, ap, _∙_, subst}
-use mathlib.Core.List.{List, _++_}
+use mathlib.Core.Path.{_≡_, refl, ap, _∙_, subst}
+use mathlib.Core.List.{List}
 use Prim.Native.Nat.{ℕ}
-use native.Mathlib.Omega.{arith}
-use lib.ListN.{length, drop, getD, replicate}
-use Rattle.trees.specs.Layout.{elementsOf}
-use Rattle.fusetext.specs.File.{opening, fieldsOf, body, fileOf}
+use lib.ListN.{length, replicate}
 use Rattle.fusetext.specs.Outcome.{Outcome, gives, refuses, left}
 use Rattle.texts.specs.Calls.{compiledOf}
 use Rattle.compilecall.specs.declared.Compiled.{Compiled}
 use Rattle.compilecall.specs.declared.Compiled.the-variants.{File, Refused}
-use Rattle.compilecall.specs.Compiling.{compiledAs, Does, Compiles}
+use Rattle.compilecall.specs.Compiling.{compiledAs, Compiles}
 
 abbrev isRefusal : Compiled → Type 0
 isRefusal (File n) = ⊥

@@ -13,8 +13,8 @@ ghost use Rattle.outputs.specs.Outputs.{stageSix};
 ghost use Rattle.fusetext.specs.File.{isMap, fileOf};
 ghost use Rattle.fusetext.specs.Outcome.{gives, left};
 ghost use Rattle.texts.specs.Stages.{unless, wholeOf};
-ghost use Rattle.texts.specs.Calls.{filed};
-ghost use Rattle.compilecall.specs.Compiling.{compiledAs, Does, Compiles};
+ghost use Rattle.texts.specs.Calls.{filed, Does};
+ghost use Rattle.compilecall.specs.Compiling.{compiledAs, Compiles};
 
 // The file's length, or a refusal.
 pub enum Compiled {
@@ -40,7 +40,7 @@ fn compile_parts(parts: &[u32], out: &mut [u8], room: &mut [u8]) -> Compiled
     requires { ⌜ stageFive (elementsOf (now parts)) ≡ fine ⌝ }
     requires { ⌜ 7154 ≤ length (now out) ⌝ }
     requires { ⌜ 65536 ≤ length (now room) ⌝ }
-    ensures { λ r. ⌜ Does (filed (unless (stageSix (elementsOf (now (parts .entry)))) (now (parts .entry)))) (now (out .entry)) (now (room .entry)) r (now (out .exit)) (now (room .exit)) ⌝ }
+    ensures { λ r. ⌜ Does compiledAs (filed (unless (stageSix (elementsOf (now (parts .entry)))) (now (parts .entry)))) (now (out .entry)) (now (room .entry)) r (now (out .exit)) (now (room .exit)) ⌝ }
 {
     let mut map = [0u8; 5892];
     let mut facts = [0u32; 20];
@@ -55,7 +55,7 @@ fn compile_text(text: &[u8], out: &mut [u8], room: &mut [u8]) -> Compiled
     requires { ⌜ 7154 ≤ length (now out) ⌝ }
     requires { ⌜ 65536 ≤ length (now room) ⌝ }
     requires { ⌜ now room ≡ replicate (length (now room)) 0 ⌝ }
-    ensures { λ r. ⌜ Does (filed (wholeOf (now (text .entry)))) (now (out .entry)) (now (room .entry)) r (now (out .exit)) (now (room .exit)) ⌝ }
+    ensures { λ r. ⌜ Does compiledAs (filed (wholeOf (now (text .entry)))) (now (out .entry)) (now (room .entry)) r (now (out .exit)) (now (room .exit)) ⌝ }
 {
     let mut parts = [0u32; 2588];
     match lola::front(text, &mut parts) {

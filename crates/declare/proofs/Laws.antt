@@ -1,36 +1,34 @@
 -- Declarations go forward, so those of a section are the first and then the rest; sections one by one.
 -- Assumes nothing.
-use mathlib.Core.Path.{_≡_, refl, sym, ap, ap₂, _∙_}
-use mathlib.Core.Bool.{Bool, true, false}
-use mathlib.Core.List.{List, []}
-use Prim.Native.Nat.{ℕ, zero, suc, _+_, _-_, _<_, _≤_}
+use mathlib.Core.Path.{_≡_, sym, ap, _∙_}
+use mathlib.Core.Bool.{Bool, false}
+use mathlib.Core.List.{List}
+use Prim.Native.Nat.{ℕ, suc, _+_, _-_, _<_, _≤_}
 use native.Mathlib.Omega.{arith}
-use lib.ListN.{length, getD, set, take, drop, length-drop}
+use lib.ListN.{length, getD, take, drop, length-drop}
 use lib.Seq.{take-all}
 use lib.Dec.{eqb, leb}
-use lib.IntN.{ℤ, pos, negsuc}
+use lib.IntN.{ℤ, pos}
 use borrow.Author.Tests.{eq-eqb, ne-eqb}
-use Rattle.basics.specs.Choice.{pick}
 use Rattle.words.specs.declared.Cursor.{Cursor}
-use Rattle.words.specs.declared.Taken.{Taken}
-use Rattle.words.specs.declared.Taken.the-variants.{Word, Refused}
+use Rattle.words.specs.declared.Taken.the-variants.{Word}
 use Rattle.words.specs.Words.{nextWord}
-use Rattle.words.proofs.Forward.{Forward, next-forward}
-use Rattle.names.specs.Names.{lookedUp, extended, held}
+use Rattle.words.proofs.Forward.{next-forward}
+use Rattle.names.specs.Names.{lookedUp, held}
 use Rattle.grammar.specs.Outcome.{Outcome, ok, no, Turn, more, last, onWord, andThen, levels}
 use Rattle.grammar.specs.Grammar.{closed, turned}
-use Rattle.grammar.specs.Modules.{wordTurn, repeat}
+use Rattle.grammar.specs.Modules.{repeat}
 use Rattle.grammar.proofs.Chain.{Past, Near, PastT, other, past-word, past-pick, past-then, past-from, past-closed, forward-from, past-expression, past-nested}
 use Rattle.grammar.proofs.Turns.{turn-pick, turn-word, repeat-more, repeat-last, repeat-falls}
 use Rattle.judging.specs.Reading.{State, reads}
 use Rattle.readers.specs.Readers.{innerOf, expressionOf}
-use Rattle.parts.specs.Parts.{elementsAt, constantsAt, allows, oneMore, declaredFrom}
+use Rattle.parts.specs.Parts.{elementsAt, constantsAt, allows, oneMore}
 use Rattle.parts.proofs.Runs.{none-more}
 use Rattle.simple.specs.Statements.{upward}
-use Rattle.lists.specs.Lists.{isKnown, freshOf, isLength, closedType, lengthOn, lengthOf, typeOf}
+use Rattle.lists.specs.Lists.{isKnown, freshOf, isLength, closedType, lengthOf, typeOf}
 use Rattle.lists.proofs.Laws.{near-fresh}
 use Rattle.declare.specs.declared.Made.{Made}
-use Rattle.declare.specs.Declarations.{seenMade, seenTurn, withConstant, widthOf, elementName, constantEnd, constantFrom, constantOf, elementTurn, elementsOf, listEnd, signalsFrom, signalsOf, itemOf, itemTurn, itemsOf, sectionOf, sectionsOf, declarationsOf}
+use Rattle.declare.specs.Declarations.{seenMade, seenTurn, withConstant, widthOf, elementName, constantEnd, constantFrom, constantOf, elementTurn, elementsOf, listEnd, signalsFrom, signalsOf, itemOf, itemTurn, sectionOf, sectionsOf}
 
 module _ (s : List ℕ) where
   -- a word was taken from a place at or behind the one that is counted from

@@ -1,8 +1,7 @@
 -- Declarations, judged where they stand in a text that is of the grammar. Document 01, 'The language we take' and 'Refusal numbers', order (3): in text
--- order, in one list the names, then the length, then the count of signals; READINGS 17, 18. The state is what the memory of the circuit holds and
+-- order, in one list the names, then the length, then the count of signals; decisions 17, 18. The state is what the memory of the circuit holds and
 -- the count of tree nodes; the names that stand there are handed on.
 use Prim.Native.Nat.{ℕ, zero, suc, _+_, _-_}
-use mathlib.Core.Bool.{Bool, true, false}
 use mathlib.Core.List.{List, []}
 use lib.ListN.{length, getD, set}
 use lib.Dec.{eqb, leb}

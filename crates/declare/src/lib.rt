@@ -6,7 +6,7 @@ use names::Table;
 use words::Cursor;
 use words::Taken;
 ghost use mathlib.Core.Path.{_≡_};
-ghost use Prim.Native.Nat.{_≤_, _-_, _+_};
+ghost use Prim.Native.Nat.{_≤_, _+_};
 ghost use lib.Dec.{eqb};
 ghost use Rattle.basics.specs.Choice.{pick};
 ghost use Rattle.integers.specs.Integers.{num};
@@ -26,19 +26,13 @@ pub struct Made {
     pub table: Table,
 }
 
-fn span(start: usize, end: usize) -> usize
-    ensures { λ r. ⌜ r ≡ end - start ⌝ }
-{
-    if start < end { end - start } else { 0 }
-}
-
 // The names with a constant in front.
 fn with_constant(names: &[u16], start: usize, end: usize, value: Num) -> Table
     ensures { λ r. ⌜ (r .top ≤ 640) × (held r ≡ withConstant (now (names .entry)) start end (num value)) ⌝ }
 {
     match value {
-        Num::Up(m) => names::extend(names, start, span(start, end), 1, m, 0),
-        Num::Down(m) => names::extend(names, start, span(start, end), 1, m, 1),
+        Num::Up(m) => names::extend(names, start, basics::span(start, end), 1, m, 0),
+        Num::Down(m) => names::extend(names, start, basics::span(start, end), 1, m, 1),
     }
 }
 
@@ -223,7 +217,7 @@ fn element_name(
     if m as u64 + w as u64 <= 64 {
         parts::declare_from(room, class, start, m, w);
         parts::put(room, 2586, m + w);
-        let table = names::extend(names, start, span(start, end.at), 2, m as u16, n);
+        let table = names::extend(names, start, basics::span(start, end.at), 2, m as u16, n);
         return Made {
             mode: 1,
             number: 0,

@@ -1,5 +1,5 @@
 -- What is known of a text that has a file. Assumes nothing.
-use mathlib.Core.Path.{_≡_, refl, sym, ap, _∙_, subst}
+use mathlib.Core.Path.{_≡_, refl, sym, ap, subst}
 use mathlib.Core.Bool.{Bool, true, false}
 use mathlib.Core.List.{List, []}
 use Prim.Native.Nat.{ℕ}
@@ -14,7 +14,7 @@ use Rattle.agree.proofs.Reading.{few-read}
 use Rattle.fusetext.specs.File.{fileOf}
 use Rattle.fusetext.specs.Outcome.{Outcome, gives, refuses}
 use Rattle.texts.specs.Stages.{Front, stays, refused, unless, frontOf, fitting, wholeOf}
-use Rattle.texts.specs.Calls.{lent, filed, compiledOf}
+use Rattle.texts.specs.Calls.{lent, called, filed, compiledOf}
 use Rattle.texts.specs.Meaning.{Meaning, means, nothing, circuitIn, meaning}
 use Rattle.texts.proofs.Sound.{Sound, sound-front}
 
@@ -51,7 +51,7 @@ pub record Accepted (s file : List ℕ) : Type 0 where
   pub file-is : file ≡ fileOf (mapFor (elementsOf parts))
 
 pub accepted : (s file : List ℕ) (out room : ℕ) → compiledOf s out room ≡ gives file → Accepted s file
-unfolding compiledOf wholeOf
+unfolding called wholeOf
 accepted s file out room e = lending (lent out room) e
   where
     fits : (parts : List ℕ) → frontOf s ≡ stays parts → stageFive (elementsOf parts) ≡ fine → (v : Verdict) → stageSix (elementsOf parts) ≡ v

@@ -47,40 +47,33 @@ exact : (o : Outcome) (n p : ℕ) → refuses n p ≡ without o → o ≡ refuse
 exact (gives l) n p e = absurd (subst isRefusal e tt)
 exact (refuses k q) n p e = sym e
 
-refusal-of : (o : Outcome) (n p : ℕ) (before after : List ℕ) → refuses n p ≡ without o → after ≡ left o before → Refusal o n p before after
-refusal-of o n p before after e l = record { because = exact o n p e; untouched = l ∙ ap (λ (x : Outcome). left x before) (exact o n p e) }
+-- each outcome is told by its answer, and the answer says of it all but the bytes
+refusal-of : {A : Type 0} (told : Outcome → A) (back : A → Outcome) → ((l : List ℕ) → back (told (gives l)) ≡ gives []) → ((n p : ℕ) → back (told (refuses n p)) ≡ refuses n p)
+    → (o : Outcome) (n p : ℕ) (before after : List ℕ) → told (refuses n p) ≡ told o → after ≡ left o before → Refusal o n p before after
+refusal-of told back gave denied o n p before after e l = record { because = same; untouched = l ∙ ap (λ (x : Outcome). left x before) same }
+  where
+    says : (o : Outcome) → back (told o) ≡ without o
+    says (gives l) = gave l
+    says (refuses n p) = denied n p
+
+    same : o ≡ refuses n p
+    same = exact o n p (sym (denied n p) ∙ ap back e ∙ says o)
 
 abbrev ofCompiled : Compiled → Outcome
 ofCompiled (Filed n) = gives []
 ofCompiled (NotFiled n p) = refuses n p
 
-compiled-tells : (o : Outcome) → ofCompiled (compiledAs o) ≡ without o
-compiled-tells (gives l) = refl
-compiled-tells (refuses n p) = refl
-
 abbrev ofFitted : Fitted → Outcome
 ofFitted (Lines n) = gives []
 ofFitted (NotLined n p) = refuses n p
-
-fitted-tells : (o : Outcome) → ofFitted (fittedAs o) ≡ without o
-fitted-tells (gives l) = refl
-fitted-tells (refuses n p) = refl
 
 abbrev ofReading : Reading → Outcome
 ofReading Map = gives []
 ofReading (NotRead n p) = refuses n p
 
-reading-tells : (o : Outcome) → ofReading (readingOf o) ≡ without o
-reading-tells (gives l) = refl
-reading-tells (refuses n p) = refl
-
 abbrev ofWritten : Written → Outcome
 ofWritten (Wrote n) = gives []
 ofWritten (NotWritten n p) = refuses n p
-
-written-tells : (o : Outcome) → ofWritten (writtenOf o) ≡ without o
-written-tells (gives l) = refl
-written-tells (refuses n p) = refl
 
 -- ---- THE THEOREMS, for each call
 
@@ -88,14 +81,12 @@ written-tells (refuses n p) = refl
 pub compile-refuses : (text out room : List ℕ) (n p : ℕ) (x y : List ℕ) → Compiles text out room (NotFiled n p) x y
     → Refusal (compiledOf text (length out) (length room)) n p out x × (y ≡ replicate (length room) 0)
 compile-refuses text out room n p x y c =
-    let o : Outcome = compiledOf text (length out) (length room) in
-    (refusal-of o n p out x (ap ofCompiled (c .answers) ∙ compiled-tells o) (c .leaves), c .clears)
+    (refusal-of compiledAs ofCompiled (λ l. refl) (λ n p. refl) (compiledOf text (length out) (length room)) n p out x (c .answers) (c .leaves), c .clears)
 
 pub fit-refuses : (text out room : List ℕ) (n p : ℕ) (x y : List ℕ) → Fits text out room (NotLined n p) x y
     → Refusal (fittedOf text (length out) (length room)) n p out x × (y ≡ replicate (length room) 0)
 fit-refuses text out room n p x y c =
-    let o : Outcome = fittedOf text (length out) (length room) in
-    (refusal-of o n p out x (ap ofFitted (c .answers) ∙ fitted-tells o) (c .leaves), c .clears)
+    (refusal-of fittedAs ofFitted (λ l. refl) (λ n p. refl) (fittedOf text (length out) (length room)) n p out x (c .answers) (c .leaves), c .clears)
 
 -- ask is lent a working room only
 pub ask-refuses : (text : List ℕ) (pin product : ℕ) (room : List ℕ) (n p : ℕ) (y : List ℕ) → Asks text pin product room (NotGraded n p) y
@@ -104,13 +95,11 @@ ask-refuses text pin product room n p y c = (sym (c .answers), c .clears)
 
 pub read-refuses : (file map : List ℕ) (n p : ℕ) (x : List ℕ) → Reads file map (NotRead n p) x → Refusal (readInto file (length map)) n p map x
 read-refuses file map n p x c =
-    let o : Outcome = readInto file (length map) in
-    refusal-of o n p map x (ap ofReading (c .answers) ∙ reading-tells o) (c .leaves)
+    refusal-of readingOf ofReading (λ l. refl) (λ n p. refl) (readInto file (length map)) n p map x (c .answers) (c .leaves)
 
 pub write-refuses : (map out : List ℕ) (n p : ℕ) (x : List ℕ) → Writes map out (NotWritten n p) x → Refusal (writeOf map (length out)) n p out x
 write-refuses map out n p x c =
-    let o : Outcome = writeOf map (length out) in
-    refusal-of o n p out x (ap ofWritten (c .answers) ∙ written-tells o) (c .leaves)
+    refusal-of writtenOf ofWritten (λ l. refl) (λ n p. refl) (writeOf map (length out)) n p out x (c .answers) (c .leaves)
 
 -- the model is lent nothing to write to: a refusal, one of 31, 30 and 32, has place 0 and answers 0 for all pins and bits
 pub model-refuses : (map bits pins : List ℕ) → 0 < numberOf ((modelled map bits pins) .verdict)

@@ -1,5 +1,5 @@
 -- Demand 3: two texts have the same file exactly if they describe the same circuit. Assumes nothing.
-use mathlib.Core.Path.{_≡_, refl, sym, ap, _∙_, subst}
+use mathlib.Core.Path.{_≡_, sym, ap, _∙_, subst}
 use mathlib.Core.List.{List}
 use Prim.Native.Nat.{ℕ}
 use Rattle.trees.specs.Layout.{Elements, elementsOf}
@@ -7,10 +7,10 @@ use Rattle.meaning.specs.Circuit.{Circuit, circuitOf, SameCircuit}
 use Rattle.outputs.specs.Outputs.{mapFor}
 use Rattle.agree.proofs.Same.{map-of-circuit, circuit-of-map}
 use Rattle.fusetext.specs.File.{fileOf}
-use Rattle.fusetext.specs.Outcome.{Outcome, gives}
+use Rattle.fusetext.specs.Outcome.{gives}
 use Rattle.fusetrip.proofs.Trip.{file-tells}
 use Rattle.texts.specs.Calls.{compiledOf}
-use Rattle.texts.specs.Meaning.{Meaning, means, meaning}
+use Rattle.texts.specs.Meaning.{means, meaning}
 use Rattle.texts.proofs.Emits.{emits-map}
 use Rattle.demands.proofs.Accepted.{Accepted, accepted, its-meaning, same-meaning}
 

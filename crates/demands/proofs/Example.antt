@@ -10,7 +10,7 @@ use lib.ListN.{replicate}
 use Rattle.basics.specs.Choice.{pick, bit}
 use Rattle.basics.proofs.Folds.{all-at, listed-same}
 use Rattle.basics.proofs.Truth.{clash, and-false}
-use Rattle.device.specs.Device.{enableOf, productsOf}
+use Rattle.device.specs.Device.{enableOf, productsOf, columnOf}
 use Rattle.rows.specs.Row.{pairsFrom, productRow}
 use Rattle.texts.specs.Stages.{Front}
 use Rattle.basics.specs.Below.{anyBelow, allBelow, tally, listed}
@@ -27,7 +27,7 @@ use Rattle.pins.specs.Variables.{variablePin, chosen, maskBelow}
 use Rattle.tables.specs.Tables.{flipAt, setBits}
 use Rattle.sums.specs.Named.{keep, spread, count}
 use Rattle.sums.specs.Product.{imp, drops, any, filter, prime, expand, products, primes, number}
-use Rattle.texts.specs.Calls.{lent, compiledOf}
+use Rattle.texts.specs.Calls.{lent, called, compiledOf}
 use Rattle.texts.specs.Stages.{frontOf, wholeOf}
 use Rattle.sums.specs.Product.{Digit}
 use Rattle.engine.specs.Table.{function}
@@ -75,7 +75,7 @@ fitted-T = ap fit-with (few named-T function-T)
 
 -- it has two products, which a cell has room for
 sum-fits : fits 0 sum-T ≡ true
-unfolding anyBelow tally listed nodesAt classOf run trees-valueOf fromEnd inverts registers keeps names replaced remains writes uses via topBelow meets firstBelow outAt value showsNext mentions namesPin variablePin chosen maskBelow flipAt setBits parts-T keep spread count imp drops any filter prime expand products primes number tableOf bitsOf productsOf
+unfolding anyBelow tally listed nodesAt classOf run trees-valueOf fromEnd inverts registers keeps names replaced remains writes uses via topBelow meets firstBelow outAt value showsNext mentions namesPin variablePin columnOf chosen maskBelow flipAt setBits parts-T keep spread count imp drops any filter prime expand products primes number tableOf bitsOf productsOf
 sum-fits = refl
 
 -- ---- stage 6 lets T pass
@@ -89,7 +89,7 @@ unfolding allBelow classOf parts-T
 only-y o h = all-at (λ k. not (eqb (elements-T .class k) 2) || eqb k 1) 64 refl o h
 
 few-pins : tooMany elements-T 1 ≡ false
-unfolding anyBelow tally listed nodesAt classOf run trees-valueOf fromEnd inverts registers keeps names replaced remains writes uses via topBelow meets firstBelow outAt value showsNext mentions namesPin variablePin chosen maskBelow flipAt setBits parts-T tooMany
+unfolding anyBelow tally listed nodesAt classOf run trees-valueOf fromEnd inverts registers keeps names replaced remains writes uses via topBelow meets firstBelow outAt value showsNext mentions namesPin variablePin columnOf chosen maskBelow flipAt setBits parts-T tooMany
 few-pins = refl
 
 y-fits : misfits elements-T 1 ≡ false
@@ -133,7 +133,7 @@ abbrev held-T : Fitted
 held-T = record { ok = true; s0 = true; n = 2; masks = 1572864 ∷ 6755399442628608 ∷ replicate 14 0 }
 
 sum-held : taken true sum-T ≡ held-T
-unfolding anyBelow tally listed nodesAt classOf run trees-valueOf fromEnd inverts registers keeps names replaced remains writes uses via topBelow meets firstBelow outAt value showsNext mentions namesPin variablePin chosen maskBelow flipAt setBits parts-T keep spread count imp drops any filter prime expand products primes number tableOf bitsOf mask
+unfolding anyBelow tally listed nodesAt classOf run trees-valueOf fromEnd inverts registers keeps names replaced remains writes uses via topBelow meets firstBelow outAt value showsNext mentions namesPin variablePin columnOf chosen maskBelow flipAt setBits parts-T keep spread count imp drops any filter prime expand products primes number tableOf bitsOf mask
 sum-held = refl
 
 -- the values at n numbers from k on, from the front
@@ -170,7 +170,7 @@ map-T = cells-T ∙ ap map-with (fitted-T ∙ ap (λ (b : Bool). pick b (taken t
 
 -- THE THEOREM: with enough memory lent, the file of T is document 01's 244 bytes
 pub compile-T : (out room : ℕ) → 7154 ≤ out → 65536 ≤ room → compiledOf module-T out room ≡ gives exampleFile
-unfolding compiledOf lent wholeOf
+unfolding called lent wholeOf
 compile-T out room h k =
     ap (λ (b : Bool). pick (b && leb 65536 room) (filed (sixth (frontOf module-T))) (refuses 13 0)) (le-leb _ _ h)
     ∙ ap (λ (b : Bool). pick b (filed (sixth (frontOf module-T))) (refuses 13 0)) (le-leb _ _ k)

@@ -1,6 +1,6 @@
 -- No second answer fits a reader's promise: what is seen of an answer says the answer, and what the lent room holds.
 -- Assumes nothing.
-use mathlib.Core.Path.{_≡_, refl, sym, ap, ap₂, _∙_}
+use mathlib.Core.Path.{_≡_, sym, ap, ap₂, _∙_}
 use mathlib.Core.List.{List}
 use Prim.Native.Nat.{ℕ}
 use native.Mathlib.Omega.{arith}
@@ -9,7 +9,7 @@ use Rattle.words.specs.declared.Cursor.{Cursor}
 use Rattle.integers.specs.Integers.{num}
 use Rattle.integers.specs.declared.Num.{Num}
 use Rattle.integers.specs.declared.Num.the-variants.{Up, Down}
-use Rattle.grammar.specs.Outcome.{Outcome, ok, no}
+use Rattle.grammar.specs.Outcome.{ok, no}
 use Rattle.judging.specs.Reading.{State, seen}
 use Rattle.judging.specs.declared.Read.{Read}
 use Rattle.judging.specs.declared.Read.the-variants.{Value, Refused}

@@ -2,15 +2,15 @@
 -- refuses. What it answers is the same whatever they are.
 -- Assumes nothing.
 use mathlib.Core.Path.{_≡_, refl, sym, subst, _∙_}
-use mathlib.Core.Bool.{Bool, true, false}
+use mathlib.Core.Bool.{Bool, false}
 use mathlib.Core.List.{List}
 use Prim.Native.Nat.{ℕ}
 use lib.Dec.{eqb}
 use lib.IntN.{ℤ}
 use Rattle.basics.proofs.Truth.{clash}
-use Rattle.grammar.specs.Outcome.{Outcome, ok, no, Built, built, bad}
-use Rattle.grammar.specs.Grammar.{Algebra, indexSort, partSort, named, expression, nested}
-use Rattle.grammar.proofs.Related.{RelB, RelO, rel-named, rel-expression, rel-nested}
+use Rattle.grammar.specs.Outcome.{Outcome, ok, no}
+use Rattle.grammar.specs.Grammar.{indexSort, partSort, expression, nested}
+use Rattle.grammar.proofs.Related.{RelB, RelO, rel-expression, rel-nested}
 use Rattle.judging.specs.Judging.{Verdict, number, node, fault, Array, base, unfit, meaningOf, markOf, literalOf, logicOf, plainOf, openedOf, elementOf, operatorOf}
 use Rattle.judging.specs.Reading.{State, done, based, reads}
 use Rattle.equations.proofs.Written.{Emits, emits-mark, emits-literal, emits-logic, emits-plain, emits-element, emits-operator, logicCode, nameCode, elementCode, operatorCode, part-two, index-two}

@@ -5,19 +5,19 @@ use mathlib.Core.Path.{_≡_, refl, sym, ap, ap₂, subst, _∙_}
 use mathlib.Core.Logic.{_⊎_, inl, inr}
 use mathlib.Core.Bool.{Bool, true, false}
 use mathlib.Core.List.{List, [], _∷_, _++_}
-use Prim.Native.Nat.{ℕ, zero, suc, _+_, _-_, _<_, _≤_}
+use Prim.Native.Nat.{ℕ, suc, _+_}
 use native.Mathlib.Omega.{arith}
 use native.Mathlib.Nat.{add-zero}
 use lib.ListN.{length, set, length-append}
 use lib.Seq.{sets}
 use lib.Dec.{eqb, ltb}
 use lib.IntN.{ℤ, pos, negsuc}
-use borrow.Author.Tests.{eqb-true, eqb-false, eq-eqb, ne-eqb}
+use borrow.Author.Tests.{eqb-true, ne-eqb}
 use Rattle.basics.specs.Choice.{pick}
 use Rattle.integers.specs.Integers.{Answer, held as kept-number, broken, combined}
 use Rattle.trees.specs.Tree.{Tree, name, low, high, neg, conj, disj, differ, mux, reg, held, flat}
-use Rattle.grammar.specs.Outcome.{Outcome, ok, no, Built, built, bad, andBuilt, builtAt}
-use Rattle.grammar.specs.Grammar.{Algebra, indexSort, partSort, expression, nested}
+use Rattle.grammar.specs.Outcome.{ok, Built, built, bad, andBuilt, builtAt}
+use Rattle.grammar.specs.Grammar.{indexSort, partSort, expression, nested}
 use Rattle.grammar.specs.Trees.{literal, logic, plain, element, invert, apply, choose, hold, keep, eval, parsed}
 use Rattle.grammar.specs.Trees as syntax
 use Rattle.grammar.proofs.Agree.{reads-meaning}

@@ -8,7 +8,7 @@ use lib.Seq.{sets}
 use lib.Dec.{eqb}
 use lib.IntN.{ℤ, pos, negsuc}
 use Rattle.basics.specs.Choice.{pick}
-use Rattle.trees.specs.Tree.{Tree, name, low, high, neg, conj, disj, differ, mux, reg, held, flat}
+use Rattle.trees.specs.Tree.{Tree, name, low, high, neg, conj, disj, differ, mux, reg, held}
 use Rattle.grammar.specs.Outcome.{Built, built, bad}
 use Rattle.grammar.specs.Grammar.{Algebra}
 use Rattle.grammar.specs.Trees.{eval}

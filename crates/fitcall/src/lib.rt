@@ -11,7 +11,8 @@ ghost use Rattle.outputs.specs.Outputs.{stageSix};
 ghost use Rattle.fusetext.specs.Outcome.{gives, left};
 ghost use Rattle.fitlines.specs.Lines.{linesBy};
 ghost use Rattle.texts.specs.Stages.{unless, wholeOf};
-ghost use Rattle.fitcall.specs.Fitting.{lined, fittedAs, Does, Fits};
+ghost use Rattle.texts.specs.Calls.{Does};
+ghost use Rattle.fitcall.specs.Fitting.{lined, fittedAs, Fits};
 
 // The length of the lines, or a refusal.
 pub enum Fitted {
@@ -36,7 +37,7 @@ fn fit_parts(parts: &[u32], out: &mut [u8], room: &mut [u8]) -> Fitted
     requires { ⌜ stageFive (elementsOf (now parts)) ≡ fine ⌝ }
     requires { ⌜ 7154 ≤ length (now out) ⌝ }
     requires { ⌜ 65536 ≤ length (now room) ⌝ }
-    ensures { λ r. ⌜ Does (lined (unless (stageSix (elementsOf (now (parts .entry)))) (now (parts .entry)))) (now (out .entry)) (now (room .entry)) r (now (out .exit)) (now (room .exit)) ⌝ }
+    ensures { λ r. ⌜ Does fittedAs (lined (unless (stageSix (elementsOf (now (parts .entry)))) (now (parts .entry)))) (now (out .entry)) (now (room .entry)) r (now (out .exit)) (now (room .exit)) ⌝ }
 {
     let mut map = [0u8; 5892];
     let mut facts = [0u32; 20];
@@ -51,7 +52,7 @@ fn fit_text(text: &[u8], out: &mut [u8], room: &mut [u8]) -> Fitted
     requires { ⌜ 7154 ≤ length (now out) ⌝ }
     requires { ⌜ 65536 ≤ length (now room) ⌝ }
     requires { ⌜ now room ≡ replicate (length (now room)) 0 ⌝ }
-    ensures { λ r. ⌜ Does (lined (wholeOf (now (text .entry)))) (now (out .entry)) (now (room .entry)) r (now (out .exit)) (now (room .exit)) ⌝ }
+    ensures { λ r. ⌜ Does fittedAs (lined (wholeOf (now (text .entry)))) (now (out .entry)) (now (room .entry)) r (now (out .exit)) (now (room .exit)) ⌝ }
 {
     let mut parts = [0u32; 2588];
     match lola::front(text, &mut parts) {

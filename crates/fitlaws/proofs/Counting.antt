@@ -1,17 +1,16 @@
 -- The lines with the counts that stage 6 leaves are those of the map, whose rows are counted. Assumes nothing.
-use mathlib.Core.Path.{_≡_, refl, sym, ap, ap₂, _∙_}
+use mathlib.Core.Path.{_≡_, refl, sym, ap₂, _∙_}
 use mathlib.Core.Bool.{Bool, true, false}
-use mathlib.Core.List.{List, [], _∷_, _++_}
-use Prim.Native.Nat.{ℕ, zero, suc, _+_, _-_, _≤_, _<_}
+use mathlib.Core.List.{List, [], _++_}
+use Prim.Native.Nat.{ℕ, zero, suc, _+_, _-_, _<_}
 use native.Mathlib.Omega.{arith}
-use lib.ListN.{length, getD, take, List·getD-append}
+use lib.ListN.{getD, take, List·getD-append}
 use lib.Seq.{getD-append-add}
 use Rattle.basics.specs.Choice.{pick}
 use Rattle.trees.specs.Layout.{Elements}
 use Rattle.gal.specs.Map.{enabled}
-use Rattle.cells.specs.Map.{mapOf}
 use Rattle.cells.specs.Counts.{productsIn, factorsIn, picks}
-use Rattle.behave.specs.Circuit.{inUse}
+use Rattle.behave.specs.Cells.{inUse}
 use Rattle.behave.proofs.Behaves.{use-is}
 use Rattle.behave.proofs.Counted.{products-counted, factors-counted}
 use Rattle.outputs.specs.Outputs.{kindOf, cellsOf, cellOf, masksOf, countsOf, kindsOf, s0sOf, mapFor}

@@ -1,4 +1,4 @@
--- What the fit program prints of a map (document 01, "The fuse file", on the fit program; READINGS 31). Cells are counted from 0, that of pin 23
+-- What the fit program prints of a map (document 01, "The fuse file", on the fit program; decision 31). Cells are counted from 0, that of pin 23
 -- first. Assumes nothing.
 use mathlib.Core.Bool.{Bool}
 use mathlib.Core.List.{List, [], _++_}

@@ -6,7 +6,7 @@ use lib.ListN.{getD}
 use lib.Dec.{leb, ltb, eqb}
 use Rattle.basics.specs.Choice.{pick}
 
--- READINGS 37: the four blanks of the language, here by their codes: space 32, tab 9, CR 13, LF 10
+-- decision 37: the four blanks of the language, here by their codes: space 32, tab 9, CR 13, LF 10
 unfoldable pub blank : ℕ → Bool
 blank b = pick (eqb b 32) true (pick (eqb b 9) true (pick (eqb b 13) true (eqb b 10)))
 
@@ -51,7 +51,7 @@ unfoldable pub past : (ℕ → Bool) → List ℕ → List ℕ
 past p [] = []
 past p (x ∷ xs) = pick (p x) (past p xs) (x ∷ xs)
 
--- READINGS 36: the number that decimal digits spell, behind others that spell n, however large. The digit 0 has the code 48
+-- decision 36: the number that decimal digits spell, behind others that spell n, however large. The digit 0 has the code 48
 unfoldable pub value : ℕ → List ℕ → ℕ
 value n [] = n
 value n (x ∷ xs) = value (10 * n + (x - 48)) xs

@@ -31,7 +31,7 @@ abbrev pub need : Bool → Listed → Listed
 need b x = pick b x (bad 20)
 
 -- Reading, L: digits, one blank or more, and fuses, of which the first stands at once and the others with or without blanks around
--- them; 22 where the number of any of them is above 5,891 (READINGS 36).
+-- them; 22 where the number of any of them is above 5,891 (decision 36).
 -- From the end: the fuses, from number n on; blanks and then those; all of it
 unfoldable pub listedFuses : ℕ → List ℕ → Listed
 listedFuses n xs =
@@ -92,7 +92,7 @@ judgeC s xs =
     must (eqb (s .c) 65536) (must (eqb (length xs) 4) (must (only hexit xs)
     (Good (record { qf = s .qf; qp = s .qp; g = s .g; l = s .l; f = s .f; c = hex4Of xs }))))
 
--- Reading, QF and QP: one of each is taken (READINGS 35: a second is 20, whatever its number), and its number is 5892 or 24
+-- Reading, QF and QP: one of each is taken (decision 35: a second is 20, whatever its number), and its number is 5892 or 24
 unfoldable pub judgeQF : Seen → List ℕ → Judged
 judgeQF s xs =
     must (not (s .qf)) (pick (eqb (numberFault xs 5892) 0)
@@ -103,7 +103,7 @@ judgeQP s xs =
     must (not (s .qp)) (pick (eqb (numberFault xs 24) 0)
     (Good (record { qf = s .qf; qp = true; g = s .g; l = s .l; f = s .f; c = s .c })) (Bad (numberFault xs 24)))
 
--- READINGS 34: Q and then F (70) or P (80); any other Q is skipped
+-- decision 34: Q and then F (70) or P (80); any other Q is skipped
 unfoldable pub judgeQ : Seen → List ℕ → Judged
 judgeQ s [] = Good s
 judgeQ s (x ∷ xs) = pick (eqb x 70) (judgeQF s xs) (pick (eqb x 80) (judgeQP s xs) (Good s))
@@ -130,12 +130,12 @@ stepOf (Bad n) cells = stop n
 abbrev pub sawL : Seen → Seen
 sawL s = record { qf = s .qf; qp = s .qp; g = s .g; l = true; f = s .f; c = s .c }
 
--- Reading, L: behind QF (READINGS 35: 20 before 22)
+-- Reading, L: behind QF (decision 35: 20 before 22)
 unfoldable pub judgeL : Seen → List ℕ → List ℕ → Step
 judgeL s xs cells =
     pick (s .qf) (pick (eqb (faultOf (listed xs)) 0) (go (sawL s) (kept (listed xs) cells)) (stop (faultOf (listed xs)))) (stop 20)
 
--- a field from its first byte up to its `*`: an L (76) or another; READINGS 34: 20 where there is no byte
+-- a field from its first byte up to its `*`: an L (76) or another; decision 34: 20 where there is no byte
 unfoldable pub judge : Seen → List ℕ → List ℕ → Step
 judge s [] cells = stop 20
 judge s (x ∷ xs) cells = pick (eqb x 76) (judgeL s xs cells) (stepOf (judgePlain s x xs) cells)

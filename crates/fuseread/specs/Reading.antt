@@ -36,14 +36,14 @@ lastSumFits s z = eqb (sum (take (z + 1) s) % 65536) (hex4Of (drop (z + 1) s))
 unfoldable pub summed : List ℕ → ℕ → ℕ → List ℕ → Outcome
 summed s z c m = pick (fuseSumFits c m) (pick (lastSumFits s z) (gives m) (refuses 24 0)) (refuses 23 0)
 
--- READINGS 38: what is missing, QF or a fuse that is neither listed nor has a default: 20 at the file's length
+-- decision 38: what is missing, QF or a fuse that is neither listed nor has a default: 20 at the file's length
 unfoldable pub whole : List ℕ → ℕ → Seen → List ℕ → Outcome
 whole s z seen cells =
     pick (seen .qf)
     (pick (bits (filled (seen .f) cells)) (summed s z (seen .c) (filled (seen .f) cells)) (refuses 20 (length s)))
     (refuses 20 (length s))
 
--- READINGS 33: right behind byte 3, at z, are four hex digits, and behind them nothing but blanks; a file that ends among the digits
+-- decision 33: right behind byte 3, at z, are four hex digits, and behind them nothing but blanks; a file that ends among the digits
 -- lacks something
 unfoldable pub ending : List ℕ → ℕ → Seen → List ℕ → Outcome
 ending s z seen cells =
@@ -52,7 +52,7 @@ ending s z seen cells =
     (pick (only blank (drop (z + 5) s)) (whole s z seen cells) (refuses 20 (z + 5 + length (front blank (drop (z + 5) s)))))
     (pick (only hexit tail) (refuses 20 (length s)) (refuses 20 (z + 1)))
 
--- READINGS 32: after the fields. Where there is no byte 3, z is the length and something is missing, unless a field was at fault
+-- decision 32: after the fields. Where there is no byte 3, z is the length and something is missing, unless a field was at fault
 unfoldable pub closing : List ℕ → ℕ → Walked → Outcome
 closing s z (ended seen cells) = pick (ltb z (length s)) (ending s z seen cells) (refuses 20 (length s))
 closing s z (fault n place) = refuses n place
@@ -64,7 +64,7 @@ opened s z h =
     pick (ltb (h + 1) z) (closing s z (walk unseen unlisted (h + 2) (pieces (drop (h + 2) (take z s)))))
     (pick (ltb z (length s)) (refuses 20 1) (refuses 20 (length s)))
 
--- Reading: no more than 65,536 bytes (READINGS 39), of which the first is byte 2; z is where the first byte 3 stands
+-- Reading: no more than 65,536 bytes (decision 39), of which the first is byte 2; z is where the first byte 3 stands
 unfoldable pub readOf : List ℕ → Outcome
 readOf s =
     let z : ℕ = length (front notEnd s) in

@@ -1,4 +1,4 @@
--- What the model refuses (document 01, "The device" and "Refusal numbers": 31, 30, 32; READINGS 40).
+-- What the model refuses (document 01, "The device" and "Refusal numbers": 31, 30, 32; decision 40).
 -- Assumes nothing.
 use mathlib.Core.Bool.{Bool, true, false, not, _&&_, _||_}
 use mathlib.Core.List.{List}

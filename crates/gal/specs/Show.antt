@@ -1,4 +1,4 @@
--- What the device shows (document 01, "The device"; READINGS 40: the values are those before the clock).
+-- What the device shows (document 01, "The device"; decision 40: the values are those before the clock).
 -- Assumes nothing.
 use mathlib.Core.Bool.{Bool, not, _&&_}
 use mathlib.Core.List.{List}

@@ -1,19 +1,18 @@
 -- Laws of the leaves, away from the records of the code.
 -- Assumes nothing.
-use mathlib.Core.Path.{_≡_, refl, sym, ap, _∙_}
-use mathlib.Core.Bool.{Bool, true, false}
+use mathlib.Core.Path.{_≡_, ap, _∙_}
 use mathlib.Core.List.{List}
 use Prim.Native.Nat.{ℕ, _+_, _<_, _≤_}
 use lib.ListN.{length, set}
-use lib.Dec.{eqb, ltb}
-use lib.IntN.{ℤ, pos}
+use lib.Dec.{eqb}
+use lib.IntN.{pos}
 use borrow.Author.Tests.{le-ltb, lt-ltb, ne-eqb}
-use Rattle.grammar.specs.Outcome.{Outcome, ok, no, Built, built, bad, builtAt}
+use Rattle.grammar.specs.Outcome.{ok, no, built, bad, builtAt}
 use Rattle.grammar.specs.Grammar.{isProduct}
-use Rattle.judging.specs.Judging.{Verdict, number, node, fault, judged}
-use Rattle.judging.specs.Reading.{State, emitted, done}
+use Rattle.judging.specs.Judging.{judged}
+use Rattle.judging.specs.Reading.{emitted, done}
 use Rattle.judging.specs.declared.Judged.{Judged}
-use Rattle.judging.specs.declared.Judged.the-variants.{Number, Node, Fault}
+use Rattle.judging.specs.declared.Judged.the-variants.{Node}
 
 pub product-end : (k : ℕ) → (k ≡ 42 → ⊥) → (k ≡ 94 → ⊥) → (k ≡ 203 → ⊥) → eqb k 204 ≡ isProduct k
 product-end k a b c = simp (ne-eqb _ _ a, ne-eqb _ _ b, ne-eqb _ _ c)

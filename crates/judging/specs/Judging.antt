@@ -1,7 +1,6 @@
 -- What a part of an expression is judged to be, for a sort: 0 only to be checked, 1 a number, 2 a signal, 3 a signal that is not counted. Document 01,
--- 'The language we take' and refusals 3, 4, 5; READINGS 14 to 16, 19, 20.
+-- 'The language we take' and refusals 3, 4, 5; decisions 14 to 16, 19, 20.
 use Prim.Native.Nat.{ℕ, _+_, _-_}
-use mathlib.Core.Bool.{Bool, true, false}
 use mathlib.Core.List.{List}
 use lib.Dec.{eqb, ltb}
 use lib.IntN.{ℤ, pos, negsuc}

@@ -1,7 +1,6 @@
 -- Expressions read where they stand: the algebra that judges each part, and writes a node for each part of a signal. Document 01, 'The language we
--- take' and refusal 6 (tree nodes); READINGS 23.
+-- take' and refusal 6 (tree nodes); decision 23.
 use Prim.Native.Nat.{ℕ, _+_}
-use mathlib.Core.Bool.{Bool, true, false}
 use mathlib.Core.List.{List}
 use lib.ListN.{length, set}
 use lib.Dec.{ltb}

@@ -7,7 +7,6 @@ use words::Cursor;
 use words::Taken;
 ghost use mathlib.Core.Path.{_≡_};
 ghost use mathlib.Core.Bool.{true, false};
-ghost use Prim.Native.Nat.{_-_};
 ghost use Rattle.integers.specs.Integers.{num};
 ghost use Rattle.grammar.specs.Outcome.{builtAt};
 ghost use Rattle.grammar.specs.Grammar.{isSum, isProduct, indexSort, partSort};
@@ -64,12 +63,6 @@ pub enum Meant {
     Nothing,
 }
 
-fn span(start: usize, end: usize) -> usize
-    ensures { λ r. ⌜ r ≡ end - start ⌝ }
-{
-    if start < end { end - start } else { 0 }
-}
-
 pub fn is_sum(kind: u8) -> bool
     ensures { λ r. ⌜ r ≡ isSum kind ⌝ }
 {
@@ -112,7 +105,7 @@ pub fn part_sort(sort: u8) -> u8
 pub fn meaning(text: &[u8], names: &[u16], start: usize, end: usize) -> Meant
     ensures { λ r. ⌜ meant r ≡ meaningOf (now (text .entry)) (now (names .entry)) start end ⌝ }
 {
-    match names::look_up(text, names, start, span(start, end)) {
+    match names::look_up(text, names, start, basics::span(start, end)) {
         Found::Known { kind, value, size } => {
             if kind == 2 {
                 return Meant::Signal { first: value, size };

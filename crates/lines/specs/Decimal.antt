@@ -14,6 +14,6 @@ spell (suc k) n = pick (eqb n 0) [] (spell k (n / 10) ++ ((48 + n % 10) ∷ []))
 unfoldable pub decimal : ℕ → List ℕ
 decimal n = spell 19 (n / 10) ++ ((48 + n % 10) ∷ [])
 
--- 'The fuse file', at its end, and READINGS 41: a refusal's line
+-- 'The fuse file', at its end, and decision 41: a refusal's line
 unfoldable pub refusalLine : ℕ → ℕ → List ℕ
 refusalLine number place = decimal number ++ text " " ++ decimal place ++ text "\n"

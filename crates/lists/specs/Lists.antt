@@ -1,5 +1,5 @@
 -- A list of signals in a text that is of the grammar: its names are new, and its type. Document 01, 'Refusal numbers', order (3): in one list the
--- names, then the length; READINGS 18.
+-- names, then the length; decision 18.
 use Prim.Native.Nat.{ℕ, suc, _-_}
 use mathlib.Core.Bool.{Bool, true, false, _&&_}
 use mathlib.Core.List.{List}

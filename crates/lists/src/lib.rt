@@ -26,17 +26,11 @@ pub enum Came {
     Twice { number: u8, place: usize },
 }
 
-fn span(start: usize, end: usize) -> usize
-    ensures { λ r. ⌜ r ≡ end - start ⌝ }
-{
-    if start < end { end - start } else { 0 }
-}
-
 // Whether a name is known.
 pub fn is_known(text: &[u8], names: &[u16], start: usize, end: usize) -> bool
     ensures { λ r. ⌜ r ≡ isKnown (lookedUp (now (text .entry)) (now (names .entry)) start (end - start)) ⌝ }
 {
-    match names::look_up(text, names, start, span(start, end)) {
+    match names::look_up(text, names, start, basics::span(start, end)) {
         Found::Known {
             kind: _,
             value: _,
@@ -66,7 +60,13 @@ fn back_turn(text: &[u8], start: usize, end: usize, from: Cursor) -> Walk
             if start <= at {
                 return Walk::End { value: 0, next };
             }
-            if names::same_name(text, at, span(at, next.at), start, span(start, end)) {
+            if names::same_name(
+                text,
+                at,
+                basics::span(at, next.at),
+                start,
+                basics::span(start, end),
+            ) {
                 return Walk::End { value: 1, next };
             }
             Walk::On { next }
@@ -191,7 +191,7 @@ fn note(text: &[u8], sieve: &mut [u16], start: usize, n: usize) -> bool
 fn stands(text: &[u8], sieve: &mut [u16], first: usize, start: usize, end: usize) -> bool
     ensures { λ r. ⌜ (r ≡ standsBy (now (text .entry)) (now (sieve .entry)) first start end) × (now (sieve .exit) ≡ noted (now (text .entry)) (now (sieve .entry)) start (end - start)) ⌝ }
 {
-    if note(text, sieve, start, span(start, end)) {
+    if note(text, sieve, start, basics::span(start, end)) {
         return false;
     }
     stands_before(text, first, start, end)

@@ -33,6 +33,7 @@ use Rattle.meaning.specs.Meaning.{value, showsNext}
 use Rattle.meaning.specs.Settle.{settleAll, orderOf}
 use Rattle.pins.specs.Memory.{namedIn}
 use Rattle.pins.specs.Named.{mentions, namesPin}
+use Rattle.device.specs.Device.{columnOf}
 use Rattle.pins.specs.Variables.{variablePin, chosen, maskBelow}
 use Rattle.tables.specs.Tables.{flipAt, setBits, tabled, tableIn}
 use Rattle.sums.specs.Named.{keep, spread, count}
@@ -40,7 +41,7 @@ use Rattle.sums.specs.Order.{columns, before}
 use Rattle.sums.specs.Product.{covers, imp, drops, any, filter, prime, verdict, expand, products, primes, factors, digits, number}
 use Rattle.engine.specs.Steps.{dropsN, gradeN}
 use Rattle.question.specs.Question.{questionTable, askedOf, asked}
-use Rattle.texts.specs.Calls.{lent, compiledOf}
+use Rattle.texts.specs.Calls.{lent, called}
 use Rattle.texts.specs.Meaning.{meaning, isGiven, settingFor}
 use Rattle.texts.specs.Stages.{fifth, fourth, third, second, frontOf}
 use Rattle.circuit.specs.StageFive.{Verdict}
@@ -55,7 +56,7 @@ use Rattle.marked.proofs.Few.{sixthFew, six-few}
 
 -- O is let pass by stage 6
 six-O : sixthFew elements-O ≡ fine
-unfolding anyBelow tally listed nodesAt classOf run trees-valueOf fromEnd inverts registers keeps names replaced remains writes uses via topBelow meets firstBelow outAt value showsNext mentions namesPin variablePin chosen maskBelow flipAt setBits count imp drops any filter prime expand products primes number tooMany tableOf bitsOf productsOf parts-O
+unfolding anyBelow tally listed nodesAt classOf run trees-valueOf fromEnd inverts registers keeps names replaced remains writes uses via topBelow meets firstBelow outAt value showsNext mentions namesPin variablePin columnOf chosen maskBelow flipAt setBits count imp drops any filter prime expand products primes number tooMany tableOf bitsOf productsOf parts-O
 six-O = refl
 
 -- so a question about it goes through all stages
@@ -67,5 +68,5 @@ asked-O product =
 
 -- THE THEOREM: what the definitions find is what is expected, for every row of the table.
 pub marked-examples : AllFit examples
-unfolding anyBelow allBelow tally listed isBlank isLetter isDigit isSingle isPair turnOf gap endOf prefixed ofTwo ofThree ofFour ofFive ofSix keywordOf named nameAt valueOf numberAt pairKind pairAt logicAt formAt wordAt nextWord fitted divided leftOver powered combined roundsOf spelling sameBytes alike same numberOf find entry entries lookedUp extended indexSort partSort closed turn chain level dotted pointed part bracketed grammar-named muxThird muxSecond muxed kept regged inverted factor term expression nested repeat upTo given numberTurn numbers positioned aimed simple statement statementTurn statements looped ranged forFrom forOf constantTurn anotherName nameTurn nameList arrayed typed typeOf listTurn constants lists outAndVar declarations begun headed sameName ended headless wholeText meaningOf markOf literalOf logicOf plainOf openedOf elementOf operatorOf emitted raised noted allows oneMore declaredFrom assignedIn positionedIn miscountedFrom targetOf assignmentOf simple-numberTurn numbersOf listOf oneOf positionOf actOf simpleOf backTurn backOf freshName freshTurn freshOf closedType lengthOf lists-typeOf elementName constantEnd constantFrom constantOf elementTurn elementsOf listEnd signalsOf itemOf itemTurn itemsOf sectionOf sectionsOf declarationsOf passTurn passedOf upperOf lowerOf rangeOf headerOf roundOf turnsOf loopOf unroll-forFrom unroll-statementTurn statementsWith unroll-forOf nodesAt classOf run trees-valueOf firstIn endIn tops eval flat topBelow meets via marked fromEnd inverts registers keeps names replaced remains writes uses roleOf plain topped placed plainN placedN misassigned misplaced positionedRight mispositioned firstBelow stageFive outAt shows clocked runFrom value showsNext settleAll orderOf namedIn mentions namesPin variablePin chosen maskBelow flipAt setBits tabled tableIn keep spread count columns before covers imp drops any filter prime verdict expand products primes factors digits number dropsN gradeN questionTable askedOf asked lent compiledOf meaning isGiven settingFor fifth fourth third second frontOf parts-O
+unfolding anyBelow allBelow tally listed isBlank isLetter isDigit isSingle isPair turnOf gap endOf prefixed ofTwo ofThree ofFour ofFive ofSix keywordOf named nameAt valueOf numberAt pairKind pairAt logicAt formAt wordAt nextWord fitted divided leftOver powered combined roundsOf spelling sameBytes alike same numberOf find entry entries lookedUp extended indexSort partSort closed turn chain level dotted pointed part bracketed grammar-named muxThird muxSecond muxed kept regged inverted factor term expression nested repeat upTo given numberTurn numbers positioned aimed simple statement statementTurn statements looped ranged forFrom forOf constantTurn anotherName nameTurn nameList arrayed typed typeOf listTurn constants lists outAndVar declarations begun headed sameName ended headless wholeText meaningOf markOf literalOf logicOf plainOf openedOf elementOf operatorOf emitted raised noted allows oneMore declaredFrom assignedIn positionedIn miscountedFrom targetOf assignmentOf simple-numberTurn numbersOf listOf oneOf positionOf actOf simpleOf backTurn backOf freshName freshTurn freshOf closedType lengthOf lists-typeOf elementName constantEnd constantFrom constantOf elementTurn elementsOf listEnd signalsOf itemOf itemTurn itemsOf sectionOf sectionsOf declarationsOf passTurn passedOf upperOf lowerOf rangeOf headerOf roundOf turnsOf loopOf unroll-forFrom unroll-statementTurn statementsWith unroll-forOf nodesAt classOf run trees-valueOf firstIn endIn tops eval flat topBelow meets via marked fromEnd inverts registers keeps names replaced remains writes uses roleOf plain topped placed plainN placedN misassigned misplaced positionedRight mispositioned firstBelow stageFive outAt shows clocked runFrom value showsNext settleAll orderOf namedIn mentions namesPin variablePin columnOf chosen maskBelow flipAt setBits tabled tableIn keep spread count columns before covers imp drops any filter prime verdict expand products primes factors digits number dropsN gradeN questionTable askedOf asked lent called meaning isGiven settingFor fifth fourth third second frontOf parts-O
 marked-examples = more refl (more refl (more refl (more refl (more refl (more refl (more refl (more refl (more refl (more (ap graded (asked-O 4)) (more (ap graded (asked-O 7)) (more refl (more refl (more refl (more refl none))))))))))))))

@@ -1,15 +1,15 @@
 -- What is known of the elements of a module that stage 5 lets pass. Assumes nothing.
 use mathlib.Core.Path.{_≡_, refl, sym, ap, _∙_, subst}
-use mathlib.Core.Bool.{Bool, true, false, not, _&&_}
+use mathlib.Core.Bool.{Bool, true, false}
 use mathlib.Core.List.{List}
 use Prim.Native.Nat.{ℕ, zero, suc, _≤_, _<_}
 use native.Mathlib.Omega.{arith}
-use lib.Dec.{T, eqb, ltb}
-use borrow.Author.Tests.{lt-ltb, le-ltb, ltb-false}
+use lib.Dec.{T, ltb}
+use borrow.Author.Tests.{lt-ltb, le-ltb}
 use Rattle.basics.specs.Choice.{pick}
-use Rattle.basics.proofs.Truth.{clash, true-of, and-l}
+use Rattle.basics.proofs.Truth.{clash}
 use Rattle.basics.proofs.Store.{below-or-not}
-use mathlib.Core.Logic.{_⊎_, inl, inr, ⊎-elim}
+use mathlib.Core.Logic.{⊎-elim}
 use Rattle.trees.specs.Layout.{Elements, elementsOf, classOf}
 use Rattle.reach.specs.Uses.{replaced, remains}
 use Rattle.circuit.specs.StageFive.{Verdict, misassigned, misplaced, looped, mispositioned, firstBelow, stageFive}

@@ -1,17 +1,16 @@
 -- Where no element meets itself, the number of elements that an element meets falls along every name. Assumes nothing.
-use mathlib.Core.Path.{_≡_, refl, sym, ap, ap₂, _∙_, subst}
-use mathlib.Core.Logic.{_⊎_, inl, inr, ⊎-elim}
-use mathlib.Core.Bool.{Bool, true, false, not, _&&_, _||_}
-use mathlib.Core.List.{List, [], _∷_}
-use Prim.Native.Nat.{ℕ, zero, suc, _+_, _-_, _*_, _/_, _%_, _≤_, _<_}
+use mathlib.Core.Path.{_≡_, sym, subst}
+use mathlib.Core.Logic.{⊎-elim}
+use mathlib.Core.Bool.{Bool, true, false, _&&_}
+use mathlib.Core.List.{List}
+use Prim.Native.Nat.{ℕ, zero, suc, _≤_, _<_}
 use native.Mathlib.Nat.{eq-or-lt-of-le, le-of-suc-le-suc}
 use native.Mathlib.Omega.{arith}
-use lib.Dec.{T, eqb, ltb}
+use lib.Dec.{T, ltb}
 use borrow.Author.Tests.{lt-ltb}
-use lib.ListN.{length, getD}
-use Rattle.basics.specs.Choice.{bit, on}
+use Rattle.basics.specs.Choice.{bit}
 use Rattle.basics.specs.Below.{tally}
-use Rattle.basics.proofs.Truth.{and-l, and-r, and-i, of-true, true-of}
+use Rattle.basics.proofs.Truth.{and-i, of-true}
 use Rattle.basics.proofs.Folds.{tally-le}
 use Rattle.trees.specs.Layout.{Elements}
 use Rattle.reach.specs.Uses.{names, replaced, writes, uses}

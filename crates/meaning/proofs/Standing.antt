@@ -1,13 +1,13 @@
 -- The pins of a module that stage 5 lets pass: each IN and OUT stands at a pin of its own, of its class. Assumes nothing.
-use mathlib.Core.Path.{_≡_, refl, sym, ap, _∙_, subst}
+use mathlib.Core.Path.{_≡_, refl, sym, _∙_}
 use mathlib.Core.Bool.{Bool, true, false, not, _&&_, _||_}
 use Prim.Native.Nat.{ℕ, _<_}
 use native.Mathlib.Omega.{arith}
-use lib.Dec.{T, eqb, ltb}
-use borrow.Author.Tests.{eq-eqb, eqb-true, eqb-false}
+use lib.Dec.{T, eqb}
+use borrow.Author.Tests.{eq-eqb, eqb-true}
 use Rattle.basics.specs.Choice.{pick}
 use Rattle.basics.specs.Below.{anyBelow}
-use Rattle.basics.proofs.Truth.{and-i, and-l, and-r, of-true, true-of, clash}
+use Rattle.basics.proofs.Truth.{and-l, and-r, of-true, true-of, clash}
 use Rattle.basics.proofs.Folds.{any-none}
 use Rattle.trees.specs.Layout.{Elements}
 use Rattle.circuit.specs.Pins.{roleOf}

@@ -1,6 +1,6 @@
 -- Elements of which none meets itself have exactly one value each on a setting of the pins. Assumes nothing.
-use mathlib.Core.Path.{_≡_, refl, sym, ap, ap₂, _∙_, subst}
-use mathlib.Core.Bool.{Bool, true, false, not, _&&_, _||_}
+use mathlib.Core.Path.{_≡_, refl, sym, ap, _∙_}
+use mathlib.Core.Bool.{Bool, true, false, not}
 use mathlib.Core.List.{List, [], _∷_}
 use Prim.Native.Nat.{ℕ, zero, suc, _+_, _-_, _≤_, _<_}
 use native.Mathlib.Omega.{arith}
@@ -8,7 +8,7 @@ use lib.Dec.{T, eqb, ltb}
 use borrow.Author.Tests.{ltb-false, eq-eqb}
 use lib.ListN.{getD, drop}
 use Rattle.basics.specs.Choice.{pick}
-use Rattle.basics.proofs.Truth.{or-l, or-r, of-true, true-of}
+use Rattle.basics.proofs.Truth.{or-l, or-r, of-true}
 use Rattle.trees.specs.Machine.{run, step, gate, nodeValue, arity, valueOf}
 use Rattle.trees.specs.Layout.{Elements}
 use Rattle.reach.specs.Uses.{names, replaced}

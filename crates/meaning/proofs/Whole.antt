@@ -1,25 +1,24 @@
 -- A module that stage 5 lets pass has exactly one meaning on each setting of its pins, and the code's order finds it. Assumes nothing.
-use mathlib.Core.Path.{_≡_, refl, sym, ap, _∙_, subst}
-use mathlib.Core.Logic.{_⊎_, inl, inr, ⊎-elim}
-use mathlib.Core.Bool.{Bool, true, false}
+use mathlib.Core.Path.{_≡_, sym, ap, _∙_}
+use mathlib.Core.Logic.{⊎-elim}
+use mathlib.Core.Bool.{Bool}
 use mathlib.Core.List.{List}
 use Prim.Native.Nat.{ℕ, _≤_, _<_}
 use native.Mathlib.Omega.{arith}
-use lib.Dec.{T}
 use lib.ListN.{length, getD, take, List·getD-eq-default}
 use Rattle.basics.specs.Below.{listed}
 use Rattle.basics.proofs.Folds.{listed-at, listed-length, tally-le}
 use Rattle.basics.proofs.Store.{below-or-not}
-use Rattle.trees.specs.Layout.{Elements, elementsOf}
+use Rattle.trees.specs.Layout.{elementsOf}
 use Rattle.trees.specs.Machine.{envOf}
-use Rattle.reach.specs.Uses.{names, replaced, uses}
+use Rattle.reach.specs.Uses.{uses}
 use Rattle.reach.specs.Reach.{via}
 use Rattle.reach.specs.Table.{Matrix}
 use Rattle.reach.proofs.Meeting.{meets-is}
 use Rattle.circuit.specs.StageFive.{stageFive}
 use Rattle.circuit.specs.StageFive.Verdict.{fine}
 use Rattle.meaning.specs.Meaning.{Solves, meaning}
-use Rattle.meaning.specs.Settle.{rankIn, settleAll, orderOf, Ordered}
+use Rattle.meaning.specs.Settle.{rankIn, settleAll, Ordered}
 use Rattle.meaning.proofs.Unique.{Ranked, unique, exists}
 use Rattle.meaning.proofs.Fine.{fine-is, replaced-small}
 use Rattle.meaning.proofs.Ranking.{rankOf, ranked, rank-is}

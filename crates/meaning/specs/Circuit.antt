@@ -1,10 +1,10 @@
 -- A circuit: what stands at each OUT pin, and what it shows, cycle by cycle from power-up (document 01, "The language we take": registers start
 -- at '0). Assumes nothing.
 use mathlib.Core.Path.{_≡_}
-use mathlib.Core.Bool.{Bool, true, false, _&&_}
+use mathlib.Core.Bool.{Bool, false, _&&_}
 use mathlib.Core.List.{List, [], _∷_}
 use Prim.Native.Nat.{ℕ}
-use lib.Dec.{T, eqb, ltb}
+use lib.Dec.{eqb, ltb}
 use Rattle.basics.specs.Choice.{pick, xor}
 use Rattle.trees.specs.Layout.{Elements}
 use Rattle.reach.specs.Uses.{inverts, registers}

@@ -2,7 +2,7 @@
 -- what remains speaks of IN pins and registered OUT pins). A setting gives each pin its value: that of a registered OUT is what its pin shows.
 -- Assumes nothing.
 use mathlib.Core.Path.{_≡_}
-use mathlib.Core.Bool.{Bool, true, false, _&&_}
+use mathlib.Core.Bool.{Bool, false, _&&_}
 use Prim.Native.Nat.{ℕ, zero, suc}
 use Rattle.basics.specs.Choice.{pick, xor}
 use Rattle.trees.specs.Machine.{valueOf}
@@ -28,7 +28,7 @@ abbrev pub meaning : Elements → (ℕ → Bool) → ℕ → Bool
 meaning e s = value e s 65
 
 -- what the pin of OUT o shows: without register, its equation; with one, what it shows after the next clock. A register that keeps its value
--- keeps Q, which is the inverse of its pin for ~REG (READINGS 28, 29)
+-- keeps Q, which is the inverse of its pin for ~REG (decisions 28, 29)
 unfoldable pub showsNext : Elements → ℕ → (ℕ → Bool) → Bool
 showsNext e o s = valueOf (meaning e s) (xor (inverts (e .nodes o)) (s (e .pin o))) (e .nodes o)
 

@@ -1,5 +1,5 @@
 -- What a name means at a place: the names that stand there, the newest first, each known by its spelling. Document 01, 'The language we take':
--- a loop variable is local and hides an outer name (READINGS 21).
+-- a loop variable is local and hides an outer name (decision 21).
 use Prim.Native.Nat.{ℕ, _+_, _-_}
 use mathlib.Core.Bool.{Bool, true, false, _&&_}
 use mathlib.Core.List.{List, [], _∷_}

@@ -1,4 +1,4 @@
--- The number that a word of decimal digits spells, of any size (document 01, 'From equation to rows', on graders; READINGS 30). Assumes nothing.
+-- The number that a word of decimal digits spells, of any size (document 01, 'From equation to rows', on graders; decision 30). Assumes nothing.
 use mathlib.Core.List.{List}
 use Prim.Native.Nat.{ℕ, min}
 use Rattle.basics.specs.Choice.{pick}

@@ -1,19 +1,18 @@
 -- The turn of one element, and stage 6 as a loop over all of them. Assumes nothing.
 use mathlib.Core.Path.{_≡_, refl, sym, ap, ap₂, _∙_, subst}
-use mathlib.Core.Logic.{_⊎_, inl, inr, ⊎-elim}
 use mathlib.Core.Bool.{Bool, true, false, not, _&&_, _||_}
-use mathlib.Core.List.{List, [], _∷_, _++_}
-use Prim.Native.Nat.{ℕ, zero, suc, _+_, _-_, _≤_, _<_}
+use mathlib.Core.List.{List, []}
+use Prim.Native.Nat.{ℕ, _+_, _-_, _≤_, _<_}
 use native.Mathlib.Omega.{arith}
-use lib.Dec.{T, eqb, leb, ltb}
-use borrow.Author.Tests.{eqb-true, eqb-false, eq-eqb, ne-eqb, le-ltb, lt-ltb, ltb-true, leb-true}
+use lib.Dec.{eqb, leb, ltb}
+use borrow.Author.Tests.{eq-eqb, ne-eqb, le-ltb, lt-ltb, ltb-true, leb-true}
 use lib.ListN.{length, getD, take, set, replicate, length-replicate}
 use Rattle.basics.specs.Choice.{pick, bit}
 use Rattle.basics.specs.Below.{allBelow, listed}
 use Rattle.basics.proofs.Truth.{clash}
 use Rattle.basics.proofs.Folds.{None, none-start, none-more, all-at}
 use Rattle.trees.specs.Layout.{Elements}
-use Rattle.circuit.specs.StageFive.{Verdict, firstBelow, stageFive}
+use Rattle.circuit.specs.StageFive.{Verdict, stageFive}
 use Rattle.circuit.specs.StageFive.Verdict.{fine, refused}
 use Rattle.circuit.proofs.First.{hit, missed}
 use Rattle.meaning.specs.Circuit.{outAt}
@@ -24,9 +23,9 @@ use Rattle.fit.specs.declared.Fitted.{Fitted}
 use Rattle.cells.specs.Counts.{picks}
 use Rattle.cells.specs.Map.{mapOf}
 use Rattle.reach.specs.Uses.{registers}
-use Rattle.behave.specs.Circuit.{Kind, unused, combinational, registered, code}
+use Rattle.behave.specs.Cells.{unused, combinational, registered, code}
 use Rattle.outputs.specs.declared.Tried.{Tried}
-use Rattle.outputs.specs.Outputs.{outOf, kindOf, tooMany, fittedOut, misfits, stageSix, cellOf, ten, masksOf, countsOf, kindsOf, s0sOf, mapFor}
+use Rattle.outputs.specs.Outputs.{outOf, kindOf, tooMany, fittedOut, misfits, stageSix, cellOf, masksOf, countsOf, kindsOf, s0sOf, mapFor}
 use Rattle.outputs.specs.Trial.{triedOf}
 use Rattle.outputs.proofs.Trying.{out-pin}
 use Rattle.outmap.specs.Sixth.{fills, placed, numberOf, Fitting, Few, factAt, factsOf, after}
@@ -258,6 +257,10 @@ map-is e all counts kinds s0s a b c d = λ y. mapOf (a y) (b y) (c y) (d y)
 
 pub after-fine : (v : Verdict) (new old l : List ℕ) → fine ≡ v → l ≡ new → l ≡ after v new old
 after-fine v new old l q w = w ∙ ap (λ (x : Verdict). after x new old) q
+
+-- where stage 6 lets pass, the lent memory holds what is new
+pub after-new : (v : Verdict) (new old l : List ℕ) → fine ≡ v → l ≡ after v new old → l ≡ new
+after-new v new old l q w = w ∙ ap (λ (x : Verdict). after x new old) (sym q)
 
 pub after-refused : (v : Verdict) (new old l : List ℕ) (n p : ℕ) → refused n p ≡ v → l ≡ old → l ≡ after v new old
 after-refused v new old l n p q w = w ∙ ap (λ (x : Verdict). after x new old) q

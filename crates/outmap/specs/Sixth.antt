@@ -1,21 +1,20 @@
 -- Stage 6 as the code gives it, and what it leaves in the memory that it was lent. Assumes nothing.
 use mathlib.Core.Path.{_≡_}
-use mathlib.Core.Bool.{Bool, true, false, _&&_}
+use mathlib.Core.Bool.{Bool, _&&_}
 use mathlib.Core.List.{List, [], _++_}
 use Prim.Native.Nat.{ℕ, _-_, _<_, _≤_}
 use lib.Dec.{eqb, ltb}
-use lib.ListN.{getD, take, set, replicate}
-use Rattle.basics.specs.Choice.{pick, bit}
+use lib.ListN.{getD, take, set}
+use Rattle.basics.specs.Choice.{pick}
 use Rattle.trees.specs.Layout.{Elements}
 use Rattle.circuit.specs.StageFive.{Verdict}
 use Rattle.circuit.specs.StageFive.Verdict.{fine, refused}
 use Rattle.meaning.specs.Circuit.{outAt}
-use Rattle.fit.specs.declared.Fitted.{Fitted}
 use Rattle.cells.specs.Counts.{picks}
 use Rattle.outmap.specs.declared.Sixth.{Sixth as Said}
 use Rattle.outmap.specs.declared.Sixth.the-variants.{Fine, Refused}
 use Rattle.outputs.specs.Trial.{triedOf}
-use Rattle.outputs.specs.Outputs.{ten, tooMany, fittedOut, stageSix, cellOf, masksOf, countsOf, s0sOf}
+use Rattle.outputs.specs.Outputs.{ten, stageSix, cellOf, masksOf, countsOf, s0sOf}
 
 abbrev pub seen : Said → Verdict
 seen Fine = fine

@@ -11,7 +11,7 @@ ghost use Rattle.trees.specs.Layout.{elementsOf, classOf};
 ghost use Rattle.circuit.specs.StageFive.{stageFive};
 ghost use Rattle.circuit.specs.StageFive.Verdict.{fine};
 ghost use Rattle.meaning.specs.Circuit.{outAt};
-ghost use Rattle.behave.specs.Circuit.{code};
+ghost use Rattle.behave.specs.Cells.{code};
 ghost use Rattle.outputs.specs.Outputs.{kindOf, fittedOut, stageSix, mapFor, kindsOf};
 ghost use Rattle.outputs.specs.Trial.{triedOf};
 ghost use Rattle.outmap.specs.Sixth.{seen, after, factsOf, placed, numberOf, Fitting, Few, factAt};

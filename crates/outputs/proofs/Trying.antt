@@ -1,12 +1,12 @@
 -- One OUT: its pin, its truth table, and what comes of it. Assumes nothing.
-use mathlib.Core.Path.{_≡_, refl, sym, ap, ap₂, _∙_, subst}
-use mathlib.Core.Logic.{_⊎_, inl, inr, ⊎-elim}
+use mathlib.Core.Path.{_≡_, refl, sym, ap, ap₂, _∙_}
+use mathlib.Core.Logic.{⊎-elim}
 use mathlib.Core.Bool.{Bool, true, false, not}
-use mathlib.Core.List.{List, [], _∷_, _++_}
-use Prim.Native.Nat.{ℕ, zero, suc, _+_, _-_, _^_, _≤_, _<_}
+use mathlib.Core.List.{List, _++_}
+use Prim.Native.Nat.{ℕ, _-_, _^_, _≤_, _<_}
 use native.Mathlib.Omega.{arith}
-use lib.Dec.{T, eqb, leb, ltb}
-use borrow.Author.Tests.{eqb-true, le-ltb, le-leb, lt-leb, leb-true}
+use lib.Dec.{eqb, leb}
+use borrow.Author.Tests.{le-ltb, le-leb, leb-true}
 use lib.ListN.{length, take, drop, replicate}
 use lib.Seq.{take-at}
 use Rattle.basics.specs.Choice.{pick, bit}
@@ -19,7 +19,7 @@ use Rattle.reach.specs.Uses.{registers, inverts}
 use Rattle.circuit.specs.Pins.{roleOf}
 use Rattle.circuit.specs.StageFive.{stageFive, positionedRight, mispositioned}
 use Rattle.circuit.specs.StageFive.Verdict.{fine}
-use Rattle.meaning.proofs.Fine.{Fine, fine-is}
+use Rattle.meaning.proofs.Fine.{fine-is}
 use Rattle.meaning.proofs.Standing.{right-role}
 use Rattle.pins.specs.Variables.{countOf, maskOf}
 use Rattle.tables.specs.Tables.{entryOf, Tabled, tabled, tableIn}

@@ -1,6 +1,6 @@
 -- From a module's elements to the ten cells and the map (document 01, "From equation to rows"; "Refusal numbers", stage 6). Cells are counted from 0, that of
 -- pin 23 first. Assumes nothing.
-use mathlib.Core.Bool.{Bool, true, false, not, _&&_, _||_}
+use mathlib.Core.Bool.{Bool, true, not, _&&_, _||_}
 use mathlib.Core.List.{List, [], _∷_}
 use Prim.Native.Nat.{ℕ, _-_, _^_}
 use lib.Dec.{eqb, leb, ltb}
@@ -16,7 +16,7 @@ use Rattle.engine.specs.Table.{function}
 use Rattle.fit.specs.Fit.{fitted, refused as noProducts}
 use Rattle.fit.specs.declared.Fitted.{Fitted}
 use Rattle.cells.specs.Map.{mapOf}
-use Rattle.behave.specs.Circuit.{Kind, unused, combinational, registered, code, Circuit as Cells}
+use Rattle.behave.specs.Cells.{Kind, unused, combinational, registered, code, Cells}
 
 -- the OUT element of cell k, 64 where there is none
 abbrev pub outOf : Elements → ℕ → ℕ

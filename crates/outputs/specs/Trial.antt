@@ -1,5 +1,5 @@
 -- What comes of one OUT in stage 6 (document 01, "From equation to rows", refusals 11 and 12). Assumes nothing.
-use mathlib.Core.Bool.{Bool, true, false}
+use mathlib.Core.Bool.{false}
 use Prim.Native.Nat.{ℕ}
 use lib.ListN.{replicate}
 use Rattle.basics.specs.Choice.{pick}

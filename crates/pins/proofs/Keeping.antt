@@ -1,13 +1,13 @@
 -- What a register holds has no effect on an equation without a two-part REG. Assumes nothing.
-use mathlib.Core.Path.{_≡_, refl, sym, ap, ap₂, _∙_, subst}
+use mathlib.Core.Path.{_≡_, refl, sym, ap, ap₂, _∙_}
 use mathlib.Core.Bool.{Bool, true, false, not, _&&_, _||_}
 use mathlib.Core.List.{List, [], _∷_}
-use Prim.Native.Nat.{ℕ, zero, suc, _+_, _-_, _≤_, _<_}
+use Prim.Native.Nat.{ℕ, suc, _+_, _-_, _≤_, _<_}
 use native.Mathlib.Nat.{eq-or-lt-of-le}
 use native.Mathlib.Omega.{arith}
-use mathlib.Core.Logic.{_⊎_, inl, inr, ⊎-elim}
-use lib.Dec.{T, eqb, ltb}
-use borrow.Author.Tests.{lt-ltb, eqb-true, eqb-false, eq-eqb, ltb-true}
+use mathlib.Core.Logic.{⊎-elim}
+use lib.Dec.{eqb, ltb}
+use borrow.Author.Tests.{lt-ltb, eqb-false, ltb-true}
 use lib.ListN.{length, getD, drop}
 use Rattle.basics.specs.Choice.{pick}
 use Rattle.basics.proofs.Truth.{clash}

@@ -1,14 +1,13 @@
 -- The table's names are the equation's. Assumes nothing.
 use mathlib.Core.Path.{_≡_, refl, sym, ap, ap₂, _∙_, subst}
-use mathlib.Core.Bool.{Bool, true, false, not, _&&_, _||_}
+use mathlib.Core.Bool.{Bool, false, _&&_, _||_}
 use mathlib.Core.List.{List}
-use Prim.Native.Nat.{ℕ, _+_, _*_, _<_}
-use native.Mathlib.Omega.{arith}
-use lib.Dec.{T, eqb, ltb}
+use Prim.Native.Nat.{ℕ, _<_}
+use lib.Dec.{eqb}
 use borrow.Author.Tests.{eq-eqb, lt-ltb}
-use lib.ListN.{length, getD, replicate, getD-replicate, length-replicate}
+use lib.ListN.{getD, replicate}
 use Rattle.basics.specs.Choice.{bit, on}
-use Rattle.basics.specs.Below.{anyBelow, listed}
+use Rattle.basics.specs.Below.{listed}
 use Rattle.basics.proofs.Folds.{any-same, listed-same, listed-at}
 use Rattle.trees.specs.Layout.{Elements}
 use Rattle.trees.proofs.Stack.{on-bit}

@@ -1,9 +1,9 @@
 -- What an OUT shows rests on the pins that its equation names, and on nothing else. Assumes nothing.
-use mathlib.Core.Path.{_≡_, refl, sym, ap, ap₂, _∙_, subst}
-use mathlib.Core.Logic.{_⊎_, inl, inr, ⊎-elim}
-use mathlib.Core.Bool.{Bool, true, false, not, _&&_, _||_}
-use mathlib.Core.List.{List, [], _∷_, _++_}
-use Prim.Native.Nat.{ℕ, zero, suc, _+_, _-_, _≤_, _<_}
+use mathlib.Core.Path.{_≡_, refl, sym, ap, _∙_, subst}
+use mathlib.Core.Logic.{⊎-elim}
+use mathlib.Core.Bool.{Bool, true, false, not, _&&_}
+use mathlib.Core.List.{List}
+use Prim.Native.Nat.{ℕ, zero, suc, _≤_, _<_}
 use native.Mathlib.Omega.{arith}
 use lib.Dec.{T, eqb, ltb}
 use borrow.Author.Tests.{eq-eqb, lt-ltb, le-ltb}
@@ -15,8 +15,7 @@ use Rattle.basics.proofs.Store.{below-or-not}
 use Rattle.trees.specs.Layout.{Elements, elementsOf}
 use Rattle.trees.specs.Machine.{valueOf}
 use Rattle.reach.specs.Uses.{names, replaced, remains, writes, uses, keeps}
-use Rattle.reach.specs.Reach.{via, Meets}
-use Rattle.reach.specs.Reach.Meets.{here, on-the-way}
+use Rattle.reach.specs.Reach.Meets.{here}
 use Rattle.reach.specs.Meeting.{meets}
 use Rattle.reach.proofs.Warshall.{joined}
 use Rattle.reach.proofs.Meeting.{meets-path, path-meets}
@@ -25,7 +24,7 @@ use Rattle.circuit.specs.Placed.{plainN, placedN}
 use Rattle.circuit.specs.StageFive.{misplaced}
 use Rattle.pins.proofs.Keeping.{none-two, value-own}
 use Rattle.meaning.specs.Meaning.{known, value, meaning, showsNext}
-use Rattle.meaning.proofs.Unique.{value-same, value-suc, value-leaf}
+use Rattle.meaning.proofs.Unique.{value-same}
 use Rattle.meaning.proofs.Fine.{remains-beyond, replaced-beyond}
 use Rattle.pins.specs.Named.{mentions, mentionsAt, namesPin}
 

@@ -1,5 +1,5 @@
 -- The pins that an OUT's equation names: as written, names replaced, with or without effect, what a REG contains too, and with a two-part REG its
--- own pin (document 01, refusal 11 and "From equation to rows"; READINGS 27, 28). Assumes nothing.
+-- own pin (document 01, refusal 11 and "From equation to rows"; decisions 27, 28). Assumes nothing.
 use mathlib.Core.Bool.{Bool, _&&_, _||_}
 use Prim.Native.Nat.{ℕ}
 use lib.Dec.{eqb}

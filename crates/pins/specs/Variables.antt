@@ -1,24 +1,22 @@
 -- The variables of truth tables, in their two orders (document 01, "The device": the columns; "From equation to rows": the order of rows, and the
 -- product question). Assumes nothing.
-use mathlib.Core.Bool.{Bool, true, false}
+use mathlib.Core.Bool.{Bool}
 use mathlib.Core.List.{List, [], _∷_, _++_}
 use Prim.Native.Nat.{ℕ, zero, suc, _+_, _-_, _^_}
 use lib.ListN.{getD}
-use Rattle.basics.specs.Choice.{pick, bit}
+use Rattle.basics.specs.Choice.{pick}
 use Rattle.basics.specs.Below.{tally}
 use Rattle.trees.specs.Layout.{Elements}
+use Rattle.device.specs.Device.{columnOf}
 use Rattle.pins.specs.Named.{namesPin}
 
--- the pins of the column pairs, and the same pins rising
-abbrev pub columnPins : List ℕ
-columnPins = 1 ∷ 23 ∷ 2 ∷ 22 ∷ 3 ∷ 21 ∷ 4 ∷ 20 ∷ 5 ∷ 19 ∷ 6 ∷ 18 ∷ 7 ∷ 17 ∷ 8 ∷ 16 ∷ 9 ∷ 15 ∷ 10 ∷ 14 ∷ 11 ∷ 13 ∷ []
-
+-- the pins of the column pairs, rising
 abbrev pub risingPins : List ℕ
 risingPins = 1 ∷ 2 ∷ 3 ∷ 4 ∷ 5 ∷ 6 ∷ 7 ∷ 8 ∷ 9 ∷ 10 ∷ 11 ∷ 13 ∷ 14 ∷ 15 ∷ 16 ∷ 17 ∷ 18 ∷ 19 ∷ 20 ∷ 21 ∷ 22 ∷ 23 ∷ []
 
 -- the pin of variable i: for rows the pin of column pair 21 - i, for the question the i-th pin
 unfoldable pub variablePin : Bool → ℕ → ℕ
-variablePin rows i = pick rows (getD columnPins (21 - i) 0) (getD risingPins i 0)
+variablePin rows i = pick rows (columnOf (21 - i)) (getD risingPins i 0)
 
 -- variable i is named by the equation of o
 abbrev pub namesVariable : Elements → Bool → ℕ → ℕ → Bool

@@ -16,31 +16,6 @@ ghost use Rattle.pins.specs.Named.{mentions, mentionsAt, namesPin};
 ghost use Rattle.pins.specs.Variables.{variablePin};
 ghost use Rattle.pins.specs.Memory.{namedIn, Variables};
 
-const COLUMN_PINS: [usize; 22] = [
-    1,
-    23,
-    2,
-    22,
-    3,
-    21,
-    4,
-    20,
-    5,
-    19,
-    6,
-    18,
-    7,
-    17,
-    8,
-    16,
-    9,
-    15,
-    10,
-    14,
-    11,
-    13,
-];
-
 const RISING_PINS: [usize; 22] = [
     1,
     2,
@@ -72,7 +47,7 @@ pub fn variable_pin(rows: bool, i: usize) -> usize
     ensures { λ r. ⌜ r ≡ variablePin rows i ⌝ }
 {
     if rows {
-        return COLUMN_PINS[21 - i];
+        return device::column(21 - i) as usize;
     }
     RISING_PINS[i]
 }

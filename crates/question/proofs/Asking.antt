@@ -2,8 +2,8 @@
 use mathlib.Core.Path.{_≡_, refl, sym, ap, ap₂, _∙_, subst}
 use mathlib.Core.Bool.{Bool, true, false, not, _&&_, _||_}
 use mathlib.Core.List.{List}
-use mathlib.Core.Logic.{_⊎_, inl, inr, ⊎-elim}
-use Prim.Native.Nat.{ℕ, zero, suc, _+_, _-_, _^_, _≤_, _<_}
+use mathlib.Core.Logic.{⊎-elim}
+use Prim.Native.Nat.{ℕ, zero, suc, _^_, _≤_, _<_}
 use native.Mathlib.Omega.{arith}
 use lib.Dec.{eqb, leb, ltb}
 use borrow.Author.Tests.{lt-ltb, le-ltb, ltb-true, leb-true, le-leb, eq-eqb}
@@ -26,10 +26,11 @@ use Rattle.question.specs.declared.Asked.{Asked}
 use Rattle.question.specs.declared.Asked.the-variants.{Verdict as Verdict′, Refused}
 use Rattle.question.specs.Question.{questionTable, askedOf, asked}
 use Rattle.pins.specs.Named.{namesPin}
+use Rattle.device.specs.Device.{columnOf}
 use Rattle.pins.specs.Variables.{variablePin, countOf}
 
 same-pins : (f : ℕ → Bool) → tally (λ i. f (variablePin true i)) 22 ≡ tally (λ i. f (variablePin false i)) 22
-unfolding tally variablePin
+unfolding tally variablePin columnOf
 same-pins f = omega arith
 
 pub same-count : (e : Elements) (o : ℕ) → countOf e true o ≡ countOf e false o

@@ -1,5 +1,5 @@
 -- The product question (document 01, "From equation to rows"; "Refusal numbers", 14). Assumes nothing.
-use mathlib.Core.Bool.{Bool, true, false}
+use mathlib.Core.Bool.{false}
 use mathlib.Core.List.{List}
 use Prim.Native.Nat.{ℕ, _^_}
 use lib.Dec.{ltb}

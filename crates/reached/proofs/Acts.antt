@@ -4,7 +4,7 @@
 use mathlib.Core.Path.{_≡_, refl, sym, ap, subst, _∙_}
 use mathlib.Core.Bool.{Bool, true, false}
 use mathlib.Core.List.{List, [], _∷_}
-use Prim.Native.Nat.{ℕ, zero, suc, _+_, _-_, _<_, _≤_}
+use Prim.Native.Nat.{ℕ, zero, suc, _+_, _<_, _≤_}
 use native.Mathlib.Omega.{arith}
 use lib.ListN.{length, getD, set, length-set}
 use lib.Seq.{getD-set-same}
@@ -28,7 +28,7 @@ use Rattle.equations.proofs.Still.{Kept, Alike, still-expression}
 use Rattle.parts.specs.Parts.{usedAt, allows, oneMore, assignedIn, positionedIn, miscountedFrom}
 use Rattle.simple.specs.Statements.{Target, element, missed, targetOn, upward, targetOf, assignmentOf, gaveOf, numberTurn, numbersOf, countedOf, listOf, oneOf, positionOf, placedOf, behindOf, actOf, simpleOf}
 use Rattle.declare.specs.Declarations.{widthOf}
-use Rattle.reached.specs.Unbounded as free
+use Rattle.reached.proofs.Unbounded as free
 use Rattle.reached.proofs.Rounds.{next-up}
 use Rattle.reached.proofs.Numbers.{Bounded}
 use Rattle.reached.proofs.Holds.{HoldsB, Holds}

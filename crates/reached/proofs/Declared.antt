@@ -24,7 +24,7 @@ use Rattle.parts.specs.Parts.{elementsAt, constantsAt, allows, oneMore, declare
 use Rattle.simple.specs.Statements.{upward}
 use Rattle.lists.specs.Lists.{isKnown, freshOf, isLength, closedType, lengthOn, lengthOf, typeOf}
 use Rattle.declare.specs.Declarations.{withConstant, widthOf, elementName, constantEnd, constantFrom, constantOf, elementTurn, elementsOf, listEnd, signalsFrom, signalsOf, itemOf, itemTurn, itemsOf, sectionOf, sectionsOf, declarationsOf}
-use Rattle.reached.specs.Unbounded as free
+use Rattle.reached.proofs.Unbounded as free
 use Rattle.reached.proofs.Numbers.{Bounded}
 use Rattle.reached.proofs.Holds.{HoldsB, Holds}
 use Rattle.reached.proofs.Known.{AllFair, width-some, expression-keeps}

@@ -1,3 +1,4 @@
+pub mod Unbounded
 pub mod Places
 pub mod Holds
 pub mod Rounds

@@ -23,7 +23,7 @@ use Rattle.judging.specs.Reading.{State, emitted, done, based, reads}
 use Rattle.readers.specs.Readers.{expressionOf}
 use Rattle.equations.proofs.Written.{Emits, emits-mark, emits-literal, emits-logic, emits-plain, emits-element, emits-operator, logicCode, nameCode, elementCode, operatorCode, part-two, index-two}
 use Rattle.simple.specs.Statements.{targetOn, targetOf}
-use Rattle.reached.specs.Unbounded as free
+use Rattle.reached.proofs.Unbounded as free
 
 abbrev Alike : ℤ → ℤ → Type 0
 Alike v w = v ≡ w

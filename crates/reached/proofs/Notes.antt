@@ -11,7 +11,7 @@ use borrow.Author.Tests.{le-leb}
 use Rattle.names.specs.Names.{extended}
 use Rattle.trees.specs.Layout.{classAt, placeAt, startAt, sizeAt, timesAt}
 use Rattle.parts.specs.Parts.{noted, raised, declaredFrom, assignedIn}
-use Rattle.reached.specs.Unbounded as free
+use Rattle.reached.proofs.Unbounded as free
 
 -- a place or a count that a text can bring is noted
 pub noted-sets : (l : List ℕ) (k v : ℕ) → v ≤ 65535 → noted l k v ≡ set l k v

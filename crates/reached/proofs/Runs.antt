@@ -13,7 +13,7 @@ use borrow.Author.Tests.{eqb-true, eqb-false, leb-true}
 use Rattle.basics.specs.Choice.{pick}
 use Rattle.trees.specs.Layout.{startAt, sizeAt, timesAt, namedAt, pinAt, countAt, givenAt, nodesAt}
 use Rattle.parts.specs.Parts.{usedAt, raised, allows, oneMore, pinnedIn, positionedIn, miscountedFrom}
-use Rattle.reached.specs.Unbounded as free
+use Rattle.reached.proofs.Unbounded as free
 
 abbrev pub begins : List ℕ → ℕ → ℕ
 begins l i = getD l (startAt + i) 0

@@ -13,7 +13,7 @@ use borrow.Author.Tests.{eqb-true, eqb-false, ne-eqb, leb-true}
 use Rattle.basics.specs.Choice.{pick}
 use Rattle.trees.specs.Layout.{startAt, sizeAt, timesAt, namedAt, pinAt, countAt, givenAt}
 use Rattle.parts.specs.Parts.{usedAt, raised, allows, oneMore, pinnedIn, positionedIn, miscountedFrom}
-use Rattle.reached.specs.Unbounded as free
+use Rattle.reached.proofs.Unbounded as free
 
 -- the pin of an element, and how often a number was given
 abbrev pub pin : List ℕ → ℕ → ℕ

@@ -23,7 +23,7 @@ use Rattle.circuit.specs.StageFive.Verdict.{fine, refused as faulty}
 use Rattle.declare.specs.Declarations.{declarationsOf}
 use Rattle.unroll.specs.Loops.{statementsOf}
 use Rattle.texts.specs.Stages.{Front, stays, refused, unless, fifth, unrolled, fourth, declared, third, checked, second, frontOf, fitting, wholeOf}
-use Rattle.reached.specs.Unbounded as free
+use Rattle.reached.proofs.Unbounded as free
 use Rattle.reached.specs.Counted.{countedFive}
 use Rattle.reached.proofs.Known.{AllFair}
 use Rattle.reached.proofs.Both.{Fine}

@@ -21,7 +21,7 @@ use Rattle.readers.specs.Readers.{expressionOf}
 use Rattle.parts.specs.Parts.{usedAt, allows, oneMore}
 use Rattle.simple.specs.Statements.{simpleOf}
 use Rattle.unroll.specs.Loops.{withLoop, passedOf, Range, upperOf, lowerOf, rangeOf, headerOf, roundOf, turnsOf, closedBy, loopOf, forFrom, again, statementTurn, statementsWith, forOf, statementsOf}
-use Rattle.reached.specs.Unbounded as free
+use Rattle.reached.proofs.Unbounded as free
 use Rattle.reached.proofs.Rounds.{round-step}
 use Rattle.reached.proofs.Numbers.{Bounded}
 use Rattle.reached.proofs.Known.{AllFair}

@@ -1,4 +1,4 @@
--- Refusal 10 by the counts of given numbers alone, and stage 5 with it. Document 01, refusal 10: two on one pin; READINGS 26.
+-- Refusal 10 by the counts of given numbers alone, and stage 5 with it. Document 01, refusal 10: two on one pin; decision 26.
 use mathlib.Core.Bool.{Bool, false, not}
 use Prim.Native.Nat.{ℕ}
 use lib.Dec.{eqb}

@@ -1,2 +1,1 @@
-pub mod Unbounded
 pub mod Counted

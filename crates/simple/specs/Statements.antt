@@ -1,5 +1,5 @@
 -- Simple statements, carried out where they stand in a text that is of the grammar. Document 01, 'The language we take' and 'Refusal numbers',
--- order (4): the target before the expression, a name before its index. READINGS 12, 16, 19, 20, 22, 23, 26. The state is what the memory of the
+-- order (4): the target before the expression, a name before its index. decisions 12, 16, 19, 20, 22, 23, 26. The state is what the memory of the
 -- circuit holds, and the count of tree nodes in it; the names that stand there are given.
 use Prim.Native.Nat.{ℕ, suc, _+_, _-_}
 use mathlib.Core.Bool.{Bool, true, false}

@@ -1,12 +1,11 @@
 -- The primes of a function do not depend on pins that it does not depend on: the primes over all pins are those over the named pins, spread
 -- out, in the same order. Two functions have the same primes exactly where they are the same function.
 -- Assumes nothing.
-use mathlib.Core.Path.{_≡_, refl, sym, ap, ap₂, _∙_, subst, fun-ext}
+use mathlib.Core.Path.{_≡_, refl, sym, ap, ap₂, _∙_, fun-ext}
 use mathlib.Core.Bool.{Bool, true, false, not, _&&_, _||_, and-self}
 use mathlib.Core.List.{List, [], _∷_, map}
-use Prim.Native.Nat.{ℕ, zero, suc, _+_, _≤_, _<_}
+use Prim.Native.Nat.{ℕ, zero, suc}
 use native.Mathlib.Omega.{arith}
-use lib.Dec.{T}
 use lib.ListN.{length}
 use Rattle.sums.specs.Product.{Digit, covers, imp, drops, any, filter, prime, expand, products, primes}
 use Rattle.sums.specs.Product.Digit.{off, on, absent}

@@ -1,11 +1,11 @@
 -- The circuit at the pin of an OUT is that OUT's equation, and its table for rows says so. Assumes nothing.
-use mathlib.Core.Path.{_≡_, refl, sym, ap, _∙_}
-use mathlib.Core.Bool.{Bool, true, false, _&&_}
+use mathlib.Core.Path.{_≡_, sym, ap, _∙_}
+use mathlib.Core.Bool.{Bool, true, _&&_}
 use mathlib.Core.List.{List}
 use Prim.Native.Nat.{ℕ, _<_}
 use lib.Dec.{ltb}
 use borrow.Author.Tests.{lt-ltb}
-use Rattle.trees.specs.Layout.{Elements, elementsOf}
+use Rattle.trees.specs.Layout.{elementsOf}
 use Rattle.reach.specs.Uses.{inverts, registers}
 use Rattle.circuit.specs.StageFive.{stageFive}
 use Rattle.circuit.specs.StageFive.Verdict.{fine}

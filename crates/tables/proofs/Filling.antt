@@ -1,15 +1,13 @@
 -- The loop that fills a table. Assumes nothing.
-use mathlib.Core.Path.{_≡_, refl, sym, ap, ap₂, _∙_, subst}
-use mathlib.Core.Logic.{_⊎_, inl, inr, ⊎-elim}
-use mathlib.Core.Bool.{Bool, true, false}
+use mathlib.Core.Path.{_≡_, refl, sym, ap, _∙_}
+use mathlib.Core.Logic.{⊎-elim}
 use mathlib.Core.List.{List, [], _∷_, _++_}
-use Prim.Native.Nat.{ℕ, zero, suc, _+_, _-_, _^_, _≤_, _<_}
+use Prim.Native.Nat.{ℕ, _+_, _-_, _^_, _≤_, _<_}
 use native.Mathlib.Omega.{arith}
 use lib.Dec.{eqb, leb}
 use borrow.Author.Tests.{eqb-true, leb-true}
 use lib.ListN.{length, getD, set, drop, length-set, length-append, length-drop, List·getD-append}
 use lib.Seq.{ext-getD, getD-drop, getD-append-add}
-use Rattle.basics.specs.Choice.{bit, pick}
 use Rattle.basics.specs.Below.{listed, allBelow}
 use Rattle.basics.proofs.Folds.{listed-at, listed-length, all-at}
 use Rattle.basics.proofs.Store.{stored, kept, below-or-not}

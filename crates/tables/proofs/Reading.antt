@@ -1,28 +1,26 @@
 -- A table says its OUT's function: the entry at the number of a setting is the function's value on it. Assumes nothing.
 use mathlib.Core.Path.{_≡_, refl, sym, ap, ap₂, _∙_, subst}
-use mathlib.Core.Logic.{_⊎_, inl, inr, ⊎-elim}
+use mathlib.Core.Logic.{⊎-elim}
 use mathlib.Core.Bool.{Bool, true, false, not, _&&_, _||_}
 use mathlib.Core.List.{List, [], _∷_, _++_}
-use Prim.Native.Nat.{ℕ, zero, suc, _+_, _-_, _*_, _/_, _%_, _≤_, _<_}
+use Prim.Native.Nat.{ℕ, zero, suc, _+_, _*_, _/_, _%_, _≤_, _<_}
 use native.Mathlib.Omega.{arith}
-use lib.Dec.{T, eqb, leb, ltb}
+use lib.Dec.{T, eqb}
 use borrow.Author.Tests.{eq-eqb, eqb-true, le-ltb}
-use lib.ListN.{length, getD}
 use Rattle.basics.specs.Choice.{bit, pick, on, xor}
 use Rattle.basics.specs.Below.{anyBelow, allBelow}
-use Rattle.basics.proofs.Truth.{or-cases, or-l, or-r, and-l, and-r, of-true, true-of, clash}
+use Rattle.basics.proofs.Truth.{or-cases, or-l, or-r, and-l, and-r, of-true, true-of}
 use Rattle.basics.proofs.Folds.{all-at}
 use Rattle.basics.proofs.Store.{below-or-not}
 use Rattle.trees.specs.Layout.{Elements, elementsOf}
-use Rattle.trees.proofs.Stack.{on-bit}
 use Rattle.reach.specs.Uses.{inverts, registers, keeps, remains}
 use Rattle.circuit.specs.Pins.{roleOf}
 use Rattle.circuit.specs.StageFive.{stageFive, mispositioned}
 use Rattle.circuit.specs.StageFive.Verdict.{fine}
-use Rattle.meaning.specs.Meaning.{showsNext, takesNext}
 use Rattle.meaning.proofs.Fine.{fine-is}
 use Rattle.meaning.proofs.Standing.{positioned-right, right-role}
 use Rattle.pins.specs.Named.{mentions, mentionsAt, namesPin}
+use Rattle.device.specs.Device.{columnOf}
 use Rattle.pins.specs.Variables.{variablePin, namesVariable, chosen, variablesOf}
 use Rattle.pins.proofs.Resting.{rests}
 use Rattle.tables.specs.Tables.{flipAt, setBits, settingAt, outcome, entryOf}
@@ -147,7 +145,7 @@ unfoldable covered : Bool → ℕ → Bool
 covered rows p = not (signalRole p) || anyBelow (λ i. eqb (variablePin rows i) p) 22
 
 covers : (rows : Bool) → allBelow (covered rows) 24 ≡ true
-unfolding allBelow anyBelow covered signalRole roleOf variablePin
+unfolding allBelow anyBelow covered signalRole roleOf variablePin columnOf
 covers true = refl
 covers false = refl
 

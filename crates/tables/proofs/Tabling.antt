@@ -1,17 +1,17 @@
 -- The answer and the table, from the count of the variables. Assumes nothing.
-use mathlib.Core.Path.{_≡_, refl, sym, ap, ap₂, _∙_, subst}
+use mathlib.Core.Path.{_≡_, sym, ap, ap₂, _∙_}
 use mathlib.Core.Bool.{Bool, true, false}
-use mathlib.Core.List.{List, [], _∷_, _++_}
-use Prim.Native.Nat.{ℕ, _+_, _-_, _^_, _≤_, _<_}
+use mathlib.Core.List.{List, _++_}
+use Prim.Native.Nat.{ℕ, _-_, _^_, _≤_, _<_}
 use native.Mathlib.Omega.{arith}
 use lib.Dec.{leb}
 use borrow.Author.Tests.{le-leb, lt-leb}
-use lib.ListN.{length, getD, take, drop}
+use lib.ListN.{take, drop}
 use Rattle.basics.specs.Choice.{bit, pick}
 use Rattle.basics.specs.Below.{listed}
 use Rattle.trees.specs.Layout.{Elements}
 use Rattle.pins.specs.Variables.{variablesOf, countOf, maskOf}
-use Rattle.tables.specs.Tables.{settingAt, outcome, entryOf, Tabled, tabled, tableIn}
+use Rattle.tables.specs.Tables.{settingAt, outcome, entryOf, tabled, tableIn}
 use Rattle.tables.specs.Tables.Tabled.{table, many}
 
 module _ (e : Elements) (rows : Bool) (o n : ℕ) (en : n ≡ countOf e rows o) where

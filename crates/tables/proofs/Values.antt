@@ -1,11 +1,10 @@
 -- An entry of a truth table. Assumes nothing.
 use mathlib.Core.Path.{_≡_, refl, sym, ap, ap₂, _∙_, subst}
-use mathlib.Core.Logic.{_⊎_, inl, inr, ⊎-elim}
-use mathlib.Core.Bool.{Bool, true, false, not, _&&_, _||_}
+use mathlib.Core.Logic.{⊎-elim}
+use mathlib.Core.Bool.{Bool, true, false, _&&_}
 use mathlib.Core.List.{List, [], _∷_, _++_}
 use Prim.Native.Nat.{ℕ, zero, suc, _+_, _≤_, _<_}
 use native.Mathlib.Omega.{arith}
-use lib.Dec.{T, eqb, ltb}
 use lib.ListN.{length, getD, take, List·getD-eq-default, List·getD-append, length-append}
 use lib.Seq.{getD-at}
 use Rattle.basics.specs.Choice.{bit, pick, on, xor}
@@ -15,7 +14,7 @@ use Rattle.basics.proofs.Store.{below-or-not}
 use Rattle.trees.specs.Machine.{envOf, valueOf}
 use Rattle.trees.specs.Layout.{Elements, elementsOf}
 use Rattle.trees.proofs.Stack.{on-bit}
-use Rattle.reach.specs.Uses.{remains, replaced, inverts, uses}
+use Rattle.reach.specs.Uses.{inverts, uses}
 use Rattle.reach.specs.Reach.{via}
 use Rattle.reach.specs.Table.{Matrix}
 use Rattle.circuit.specs.StageFive.{stageFive}
@@ -27,7 +26,6 @@ use Rattle.meaning.proofs.Settling.{Starts, settled}
 use Rattle.meaning.proofs.Whole.{ranks-are}
 use Rattle.pins.specs.Variables.{variablePin, chosen, variablesOf, namesVariable}
 use Rattle.pins.proofs.Choosing.{pin-small}
-use Rattle.tables.specs.Tables.{outcome}
 use Rattle.tables.specs.Memory.{InOrder, Pins}
 
 -- the values of the elements that remain

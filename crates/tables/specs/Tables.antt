@@ -1,7 +1,7 @@
--- Truth tables of an OUT's function over the variables that it names (document 01, "The device": feedback, and "From equation to rows"; READINGS 27
+-- Truth tables of an OUT's function over the variables that it names (document 01, "The device": feedback, and "From equation to rows"; decision 27
 -- and 28). For the question a variable is a pin's value, and the function what the pin shows next. For rows it is the complement of the signal of
 -- the pin's column pair, and the function the equation's value or what Q takes next. Assumes nothing.
-use mathlib.Core.Bool.{Bool, true, false, _&&_}
+use mathlib.Core.Bool.{Bool, true, _&&_}
 use mathlib.Core.List.{List, [], _∷_, _++_}
 use Prim.Native.Nat.{ℕ, _/_, _%_, _^_}
 use lib.Dec.{eqb, leb, ltb}

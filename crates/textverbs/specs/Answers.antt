@@ -1,4 +1,4 @@
--- What the programs print for a text (document 01, 'The fuse file', at its end, and 'Refusal numbers'; 'From equation to rows', on graders). READINGS 41: a
+-- What the programs print for a text (document 01, 'The fuse file', at its end, and 'Refusal numbers'; 'From equation to rows', on graders). decision 41: a
 -- refusal is its line. Assumes nothing.
 use mathlib.Core.List.{List, _∷_}
 use Prim.Native.Nat.{ℕ, _+_}

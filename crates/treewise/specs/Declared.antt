@@ -1,5 +1,5 @@
 -- Stage 3 on the tree of a module: its declarations in the order of the text. Document 01, 'The language we take' and 'Refusal numbers', order (3): in
--- one list the names, then the length, then the count of signals; READINGS 17, 18. The text is at hand for the spelling of names, and for the place of
+-- one list the names, then the length, then the count of signals; decisions 17, 18. The text is at hand for the spelling of names, and for the place of
 -- a length's first word. Assumes nothing.
 use Prim.Native.Nat.{ℕ, _+_, _-_}
 use mathlib.Core.Bool.{Bool, _||_}

@@ -1,5 +1,5 @@
 -- Stage 4 on the tree of a module: each statement is carried out, a FOR's body once for each round. Document 01, 'The language we take' and 'Refusal
--- numbers', order (4): the target before the expression, a name before its index; READINGS 12, 16, 19 to 23, 26. The text is at hand for the spelling
+-- numbers', order (4): the target before the expression, a name before its index; decisions 12, 16, 19 to 23, 26. The text is at hand for the spelling
 -- of names alone. Assumes nothing.
 use Prim.Native.Nat.{ℕ, zero, suc, _+_, _-_}
 use mathlib.Core.List.{List, [], _∷_, _++_}

@@ -3,7 +3,7 @@
 use mathlib.Core.Path.{_≡_, refl}
 use mathlib.Core.List.{List, [], _∷_}
 use Prim.Native.Nat.{ℕ}
-use lib.IntN.{ℤ, pos}
+use lib.IntN.{ℤ}
 use Rattle.basics.specs.Text.{text}
 use Rattle.words.specs.Bytes.{isBlank, isLetter, isDigit, isSingle, isPair, turnOf}
 use Rattle.words.specs.Words.{gap, endOf, prefixed, ofTwo, ofThree, ofFour, ofFive, ofSix, keywordOf, named as wnamed, nameAt, valueOf, numberAt, pairKind, pairAt, logicAt, formAt, wordAt, nextWord}

@@ -1,31 +1,30 @@
 -- Statements never go back, so a run of statements is its first turn, and then the run; rounds, one by one.
 -- Assumes nothing.
-use mathlib.Core.Path.{_≡_, refl, sym, ap, ap₂, subst, _∙_}
+use mathlib.Core.Path.{_≡_, refl, sym, ap, ap₂, _∙_}
 use mathlib.Core.Bool.{Bool, true, false}
 use mathlib.Core.List.{List}
 use Prim.Native.Nat.{ℕ, zero, suc, _+_, _-_, _<_, _≤_}
 use native.Mathlib.Omega.{arith}
 use native.Mathlib.Numerals.{sub-one}
-use lib.ListN.{length, getD, take, drop, length-drop}
+use lib.ListN.{length, take, drop, length-drop}
 use lib.Seq.{take-all}
 use lib.Dec.{eqb, ltb}
 use borrow.Author.Tests.{eqb-false}
-use lib.IntN.{ℤ, pos, negsuc}
+use lib.IntN.{ℤ, pos}
 use Rattle.basics.specs.Choice.{pick}
-use Rattle.words.specs.Words.{nextWord}
 use Rattle.integers.specs.Integers.{nextℤ, roundsOf}
-use Rattle.grammar.specs.Outcome.{Outcome, ok, no, Turn, more, last, onWord, andThen}
+use Rattle.grammar.specs.Outcome.{Outcome, ok, no, more, last, andThen}
 use Rattle.grammar.specs.Grammar.{closed}
-use Rattle.grammar.specs.Modules.{thenTurn, wordTurn, repeat}
-use Rattle.grammar.proofs.Chain.{Past, Near, PastT, other}
-use Rattle.grammar.proofs.Turns.{near-from, near-then, near-pick, turn-then, turn-pick, near-word, turn-word, near-closed, repeat-more, repeat-last, repeat-falls, near-repeat}
+use Rattle.grammar.specs.Modules.{repeat}
+use Rattle.grammar.proofs.Chain.{Near, PastT, other}
+use Rattle.grammar.proofs.Turns.{near-then, near-pick, turn-pick, near-word, turn-word, near-closed, repeat-more, repeat-last, repeat-falls, near-repeat}
 use Rattle.judging.specs.Reading.{State}
 use Rattle.readers.specs.Readers.{expressionOf}
 use Rattle.parts.specs.Parts.{usedAt, allows, oneMore}
 use Rattle.parts.proofs.Runs.{none-more}
 use Rattle.simple.specs.Statements.{simpleOf}
 use Rattle.simple.proofs.Laws.{near-expression, near-simple}
-use Rattle.unroll.specs.Loops.{withLoop, passTurn, passedOf, Range, range, upperOf, lowerOf, rangeOf, headerOf, roundOf, turnsOf, closedBy, loopOf, forFrom, again, statementTurn, statementsWith, forOf, statementsOf}
+use Rattle.unroll.specs.Loops.{withLoop, passTurn, passedOf, Range, upperOf, lowerOf, rangeOf, headerOf, roundOf, turnsOf, closedBy, loopOf, forFrom, again, statementTurn, statementsWith, forOf, statementsOf}
 
 -- ---- passing over a body
 

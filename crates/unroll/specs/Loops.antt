@@ -1,7 +1,6 @@
 -- Statements and FOR, unrolled where they stand in a text that is of the grammar: the body of a FOR is read again for each round. Document 01, 'The
--- language we take' and 'Refusal numbers', order (4); READINGS 13, 21, 22.
+-- language we take' and 'Refusal numbers', order (4); decisions 13, 21, 22.
 use Prim.Native.Nat.{ℕ, zero, suc, _+_, _-_}
-use mathlib.Core.Bool.{Bool, true, false}
 use mathlib.Core.List.{List}
 use lib.ListN.{length}
 use lib.Dec.{eqb, ltb}

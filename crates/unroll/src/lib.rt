@@ -6,7 +6,7 @@ use names::Table;
 use words::Cursor;
 use words::Taken;
 ghost use mathlib.Core.Path.{_≡_};
-ghost use Prim.Native.Nat.{_≤_, _-_};
+ghost use Prim.Native.Nat.{_≤_};
 ghost use lib.IntN.{pos};
 ghost use Rattle.integers.specs.Integers.{num};
 ghost use Rattle.names.specs.Names.{held};
@@ -43,19 +43,13 @@ pub enum Header {
     },
 }
 
-fn span(start: usize, end: usize) -> usize
-    ensures { λ r. ⌜ r ≡ end - start ⌝ }
-{
-    if start < end { end - start } else { 0 }
-}
-
 // The names with a loop variable in front.
 fn with_loop(names: &[u16], start: usize, end: usize, value: Num) -> Table
     ensures { λ r. ⌜ (r .top ≤ 640) × (held r ≡ withLoop (now (names .entry)) start end (num value)) ⌝ }
 {
     match value {
-        Num::Up(m) => names::extend(names, start, span(start, end), 3, m, 0),
-        Num::Down(m) => names::extend(names, start, span(start, end), 3, m, 1),
+        Num::Up(m) => names::extend(names, start, basics::span(start, end), 3, m, 0),
+        Num::Down(m) => names::extend(names, start, basics::span(start, end), 3, m, 1),
     }
 }
 

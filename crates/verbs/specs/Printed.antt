@@ -11,12 +11,12 @@ use Rattle.lines.specs.Decimal.{refusalLine}
 use Rattle.lines.specs.Line.{lineLength, fusesIn, shownLine}
 use Rattle.gallines.specs.Lines.{mapOf, answerTo, contents}
 
--- READINGS 41: what is given, in a form of its own, or a refusal's line
+-- decision 41: what is given, in a form of its own, or a refusal's line
 abbrev pub printed : (List ℕ → List ℕ) → Outcome → List ℕ
 printed form (gives bytes) = form bytes
 printed form (refuses number place) = refusalLine number place
 
--- a fuse file of `total` bytes as a line of its map's digits. READINGS 39: where it is too long, its length alone decides, and `file` may
+-- a fuse file of `total` bytes as a line of its map's digits. decision 39: where it is too long, its length alone decides, and `file` may
 -- be a part of it
 unfoldable pub readAnswer : List ℕ → ℕ → List ℕ
 readAnswer file total = pick (leb total 65536) (printed shownLine (readOf file)) (refusalLine 20 total)

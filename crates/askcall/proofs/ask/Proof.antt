@@ -1,4 +1,5 @@
-use Rattle.askcall.proofs.Laws.{zeros-again, short-room, lent-room}
+use Rattle.texts.proofs.Calling.{zeros-again}
+use Rattle.askcall.proofs.Laws.{short-room, lent-room}
 use borrow.Author.Needs.{needs}
 use Rattle.askcall.proofs.ask.Statement.{statement}
 use Rattle.askcall.proofs.ask.Tie as tie

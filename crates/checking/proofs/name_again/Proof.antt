@@ -5,7 +5,7 @@ use Rattle.checking.proofs.name_again.Statement.{statement}
 use Rattle.checking.proofs.name_again.Tie as tie
 use Rattle.checking.proofs.name_again.Reads as reads
 use Rattle.checking.proofs.name_again.Lts as lts
-use Rattle.checking.proofs.span.Reads as span-reads
+use Rattle.basics.proofs.span.Reads as span-reads
 use Rattle.names.proofs.same_name.Reads as same-name-reads
 use Rattle.words.proofs.Cursor.next.Reads as next-reads
 

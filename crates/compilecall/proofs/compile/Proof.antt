@@ -1,4 +1,6 @@
-use Rattle.compilecall.proofs.Laws.{short-output, short-cleared, zeros-again, lent-cleared}
+use Rattle.fusetext.specs.File.{fileOf}
+use Rattle.texts.proofs.Calling.{short-output, short-cleared, zeros-again, lent-cleared}
+use Rattle.compilecall.specs.Compiling.{compiledAs}
 use borrow.Author.Needs.{needs}
 use Rattle.compilecall.proofs.compile.Statement.{statement}
 use Rattle.compilecall.proofs.compile.Tie as tie
@@ -18,7 +20,7 @@ same-length c = search needs
 -- src/lib.rt:73:9
 returns : tie.Need-returns
 returns c =
-    short-output _ _ _ _ (c .if1 .taken) (c .before .before .before .clear .ensures)
+    short-output compiledAs fileOf _ _ _ _ (c .if1 .taken) (c .before .before .before .clear .ensures)
 
 -- src/lib.rt:79:9
 same-length-2 : tie.Need-same-length-2
@@ -27,7 +29,7 @@ same-length-2 c = search needs
 -- src/lib.rt:79:9
 returns-2 : tie.Need-returns-2
 returns-2 c =
-    short-cleared _ _ _ _ (c .before .before .before .before .clear .ensures) (c .if2 .taken)
+    short-cleared compiledAs fileOf _ _ _ _ (c .before .before .before .before .clear .ensures) (c .if2 .taken)
 
 -- src/lib.rt:84:5
 compile-text-requires : tie.Need-compile-text-requires
@@ -45,7 +47,7 @@ same-length-4 c = search needs
 -- src/lib.rt:68:1
 returns-3 : tie.Need-returns-3
 returns-3 c =
-    lent-cleared _ _ _ _ _ _ _ (c .before .before .before .before .before .before .before .before .before .before .before .clear .ensures) (c .before .before .before .before .before .before .before .before .if1 .left) (c .before .before .before .before .before .before .before .if2 .left) (c .before .before .before .before .compile-text .ensures)
+    lent-cleared compiledAs fileOf _ _ _ _ _ _ _ (c .before .before .before .before .before .before .before .before .before .before .before .clear .ensures) (c .before .before .before .before .before .before .before .before .if1 .left) (c .before .before .before .before .before .before .before .if2 .left) (c .before .before .before .before .compile-text .ensures)
 
 pub compile-spec : {M : Type 1} → statement M
 compile-spec =

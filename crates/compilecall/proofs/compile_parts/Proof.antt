@@ -1,5 +1,8 @@
 use mathlib.Core.Path.{_≡_, refl, sym, ap, _∙_}
-use Rattle.compilecall.proofs.Laws.{fit-is-map, file-fits, file-misfits}
+use Rattle.fusetext.specs.File.{fileOf}
+use Rattle.texts.proofs.Calling.{misfits}
+use Rattle.compilecall.specs.Compiling.{compiledAs}
+use Rattle.compilecall.proofs.Laws.{fit-is-map, file-fits}
 use Rattle.outmap.specs.Sixth.{seen}
 use native.Mathlib.Omega.{arith}
 use borrow.Author.Needs.{needs}
@@ -61,7 +64,7 @@ same-length-3 c = search needs
 -- src/lib.rt:52:1
 returns-2 : tie.Need-returns-2
 returns-2 c =
-    file-misfits _ _ _ _ _ _ (ap seen (sym (c .before .number .given .1)) ∙ c .before .before .before .before .before .before .before .map-outputs .ensures .0) (c .before .before .before .before .before .before .before .map-outputs .ensures .1 .0)
+    misfits compiledAs fileOf _ _ _ _ _ _ (ap seen (sym (c .before .number .given .1)) ∙ c .before .before .before .before .before .before .before .map-outputs .ensures .0) (c .before .before .before .before .before .before .before .map-outputs .ensures .1 .0)
 
 pub compile-parts-spec : {M : Type 1} → statement M
 compile-parts-spec =

@@ -1,5 +1,7 @@
 use mathlib.Core.Path.{_≡_, refl, sym, ap, _∙_}
-use Rattle.compilecall.proofs.Laws.{text-stays, text-refused}
+use Rattle.fusetext.specs.File.{fileOf}
+use Rattle.texts.proofs.Calling.{text-stays, text-refused}
+use Rattle.compilecall.specs.Compiling.{compiledAs}
 use Rattle.texts.proofs.Sound.{passed-five}
 use borrow.Author.Needs.{needs}
 use Rattle.compilecall.proofs.compile_text.Statement.{statement}
@@ -45,12 +47,12 @@ same-length-2 c = search needs
 -- src/lib.rt:67:1
 returns : tie.Need-returns
 returns c =
-    text-stays _ _ _ _ _ _ _ (rw (c .before .before .before .before .before .before .before .before .enum-told .given .1) at (c .before .before .before .before .before .before .before .before .before .before .before .front .ensures)) (c .before .before .before .before .compile-parts .ensures)
+    text-stays compiledAs fileOf _ _ _ _ _ _ _ (rw (c .before .before .before .before .before .before .before .before .enum-told .given .1) at (c .before .before .before .before .before .before .before .before .before .before .before .front .ensures)) (c .before .before .before .before .compile-parts .ensures)
 
 -- src/lib.rt:67:1
 returns-2 : tie.Need-returns-2
 returns-2 c =
-    text-refused _ _ _ _ _ _ (rw (c .before .number .given .1) at (c .before .before .before .before .front .ensures)) (c .before .before .before .before .before .before .before .before .before .pre .1 .1)
+    text-refused compiledAs fileOf _ _ _ _ _ _ (rw (c .before .number .given .1) at (c .before .before .before .before .front .ensures)) (c .before .before .before .before .before .before .before .before .before .pre .1 .1)
 
 pub compile-text-spec : {M : Type 1} → statement M
 compile-text-spec =

@@ -5,7 +5,7 @@ use Rattle.declare.proofs.element_name.Statement.{statement}
 use Rattle.declare.proofs.element_name.Tie as tie
 use Rattle.declare.proofs.element_name.Reads as reads
 use Rattle.declare.proofs.element_name.Lts as lts
-use Rattle.declare.proofs.span.Reads as span-reads
+use Rattle.basics.proofs.span.Reads as span-reads
 use Rattle.declare.proofs.width.Reads as width-reads
 use Rattle.names.proofs.extend.Reads as extend-reads
 use Rattle.names.proofs.none.Reads as none-reads

@@ -4,7 +4,7 @@ use Rattle.declare.proofs.with_constant.Statement.{statement}
 use Rattle.declare.proofs.with_constant.Tie as tie
 use Rattle.declare.proofs.with_constant.Reads as reads
 use Rattle.declare.proofs.with_constant.Lts as lts
-use Rattle.declare.proofs.span.Reads as span-reads
+use Rattle.basics.proofs.span.Reads as span-reads
 use Rattle.names.proofs.extend.Reads as extend-reads
 
 -- src/lib.rt:40:17

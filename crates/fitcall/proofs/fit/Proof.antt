@@ -1,4 +1,6 @@
-use Rattle.fitcall.proofs.Laws.{short-output, short-cleared, zeros-again, lent-cleared}
+use Rattle.fitlines.specs.Lines.{fitLines}
+use Rattle.texts.proofs.Calling.{short-output, short-cleared, zeros-again, lent-cleared}
+use Rattle.fitcall.specs.Fitting.{fittedAs}
 use borrow.Author.Needs.{needs}
 use Rattle.fitcall.proofs.fit.Statement.{statement}
 use Rattle.fitcall.proofs.fit.Tie as tie
@@ -18,7 +20,7 @@ same-length c = search needs
 -- src/lib.rt:69:9
 returns : tie.Need-returns
 returns c =
-    short-output _ _ _ _ (c .if1 .taken) (c .before .before .before .clear .ensures)
+    short-output fittedAs fitLines _ _ _ _ (c .if1 .taken) (c .before .before .before .clear .ensures)
 
 -- src/lib.rt:75:9
 same-length-2 : tie.Need-same-length-2
@@ -27,7 +29,7 @@ same-length-2 c = search needs
 -- src/lib.rt:75:9
 returns-2 : tie.Need-returns-2
 returns-2 c =
-    short-cleared _ _ _ _ (c .before .before .before .before .clear .ensures) (c .if2 .taken)
+    short-cleared fittedAs fitLines _ _ _ _ (c .before .before .before .before .clear .ensures) (c .if2 .taken)
 
 -- src/lib.rt:80:5
 fit-text-requires : tie.Need-fit-text-requires
@@ -45,7 +47,7 @@ same-length-4 c = search needs
 -- src/lib.rt:64:1
 returns-3 : tie.Need-returns-3
 returns-3 c =
-    lent-cleared _ _ _ _ _ _ _ (c .before .before .before .before .before .before .before .before .before .before .before .clear .ensures) (c .before .before .before .before .before .before .before .before .if1 .left) (c .before .before .before .before .before .before .before .if2 .left) (c .before .before .before .before .fit-text .ensures)
+    lent-cleared fittedAs fitLines _ _ _ _ _ _ _ (c .before .before .before .before .before .before .before .before .before .before .before .clear .ensures) (c .before .before .before .before .before .before .before .before .if1 .left) (c .before .before .before .before .before .before .before .if2 .left) (c .before .before .before .before .fit-text .ensures)
 
 pub fit-spec : {M : Type 1} → statement M
 fit-spec =

@@ -1,4 +1,7 @@
-use Rattle.fitcall.proofs.Laws.{lines-fit, lines-misfit}
+use Rattle.fitlines.specs.Lines.{fitLines}
+use Rattle.texts.proofs.Calling.{misfits}
+use Rattle.fitcall.specs.Fitting.{fittedAs}
+use Rattle.fitcall.proofs.Laws.{lines-fit}
 use Rattle.outmap.specs.Sixth.{seen}
 use mathlib.Core.Path.{refl, sym, ap, _∙_}
 use native.Mathlib.Omega.{arith}
@@ -64,7 +67,7 @@ same-length-3 c = search needs
 -- src/lib.rt:35:1
 returns-2 : tie.Need-returns-2
 returns-2 c =
-    lines-misfit _ _ _ _ _ _ (ap seen (sym (c .before .number .given .1)) ∙ c .before .before .before .before .before .before .before .map-outputs .ensures .0) (c .before .before .before .before .before .before .before .map-outputs .ensures .1 .0)
+    misfits fittedAs fitLines _ _ _ _ _ _ (ap seen (sym (c .before .number .given .1)) ∙ c .before .before .before .before .before .before .before .map-outputs .ensures .0) (c .before .before .before .before .before .before .before .map-outputs .ensures .1 .0)
 
 pub fit-parts-spec : {M : Type 1} → statement M
 fit-parts-spec =

@@ -1,4 +1,6 @@
-use Rattle.fitcall.proofs.Laws.{text-stays, text-refused}
+use Rattle.fitlines.specs.Lines.{fitLines}
+use Rattle.texts.proofs.Calling.{text-stays, text-refused}
+use Rattle.fitcall.specs.Fitting.{fittedAs}
 use Rattle.texts.proofs.Sound.{passed-five}
 use mathlib.Core.Path.{refl, sym, ap, _∙_}
 use borrow.Author.Needs.{needs}
@@ -45,12 +47,12 @@ same-length-2 c = search needs
 -- src/lib.rt:50:1
 returns : tie.Need-returns
 returns c =
-    text-stays _ _ _ _ _ _ _ (rw (c .before .before .before .before .before .before .before .before .enum-told .given .1) at (c .before .before .before .before .before .before .before .before .before .before .before .front .ensures)) (c .before .before .before .before .fit-parts .ensures)
+    text-stays fittedAs fitLines _ _ _ _ _ _ _ (rw (c .before .before .before .before .before .before .before .before .enum-told .given .1) at (c .before .before .before .before .before .before .before .before .before .before .before .front .ensures)) (c .before .before .before .before .fit-parts .ensures)
 
 -- src/lib.rt:50:1
 returns-2 : tie.Need-returns-2
 returns-2 c =
-    text-refused _ _ _ _ _ _ (rw (c .before .number .given .1) at (c .before .before .before .before .front .ensures)) (c .before .before .before .before .before .before .before .before .before .pre .1 .1)
+    text-refused fittedAs fitLines _ _ _ _ _ _ (rw (c .before .number .given .1) at (c .before .before .before .before .front .ensures)) (c .before .before .before .before .before .before .before .before .before .pre .1 .1)
 
 pub fit-text-spec : {M : Type 1} → statement M
 fit-text-spec =

@@ -6,7 +6,7 @@ use Rattle.judging.proofs.meaning.Statement.{statement}
 use Rattle.judging.proofs.meaning.Tie as tie
 use Rattle.judging.proofs.meaning.Reads as reads
 use Rattle.judging.proofs.meaning.Lts as lts
-use Rattle.judging.proofs.span.Reads as span-reads
+use Rattle.basics.proofs.span.Reads as span-reads
 use Rattle.names.proofs.look_up.Reads as look-up-reads
 
 -- src/lib.rt:115:46

@@ -5,7 +5,7 @@ use Rattle.lists.proofs.back_turn.Statement.{statement}
 use Rattle.lists.proofs.back_turn.Tie as tie
 use Rattle.lists.proofs.back_turn.Reads as reads
 use Rattle.lists.proofs.back_turn.Lts as lts
-use Rattle.lists.proofs.span.Reads as span-reads
+use Rattle.basics.proofs.span.Reads as span-reads
 use Rattle.names.proofs.same_name.Reads as same-name-reads
 use Rattle.words.proofs.Cursor.next.Reads as next-reads
 

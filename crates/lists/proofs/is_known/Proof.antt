@@ -4,7 +4,7 @@ use Rattle.lists.proofs.is_known.Statement.{statement}
 use Rattle.lists.proofs.is_known.Tie as tie
 use Rattle.lists.proofs.is_known.Reads as reads
 use Rattle.lists.proofs.is_known.Lts as lts
-use Rattle.lists.proofs.span.Reads as span-reads
+use Rattle.basics.proofs.span.Reads as span-reads
 use Rattle.names.proofs.look_up.Reads as look-up-reads
 
 -- src/lib.rt:37:46

@@ -5,7 +5,7 @@ use Rattle.lists.proofs.stands.Tie as tie
 use Rattle.lists.proofs.stands.Reads as reads
 use Rattle.lists.proofs.stands.Lts as lts
 use Rattle.lists.proofs.note.Reads as note-reads
-use Rattle.lists.proofs.span.Reads as span-reads
+use Rattle.basics.proofs.span.Reads as span-reads
 use Rattle.lists.proofs.stands_before.Reads as stands-before-reads
 
 -- src/lib.rt:194:33

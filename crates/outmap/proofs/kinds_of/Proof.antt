@@ -1,6 +1,6 @@
 use Rattle.outmap.proofs.Filling.{ten-listed}
 use Rattle.outputs.specs.Outputs.{kindOf}
-use Rattle.behave.specs.Circuit.{code}
+use Rattle.behave.specs.Cells.{code}
 use Prim.Native.Nat.{_-_}
 use Rattle.basics.proofs.Folds.{Listing, listing-start, listing-more, listing-end}
 use Rattle.trees.specs.Layout.{elementsOf}

@@ -5,7 +5,7 @@ use Rattle.unroll.proofs.with_loop.Tie as tie
 use Rattle.unroll.proofs.with_loop.Reads as reads
 use Rattle.unroll.proofs.with_loop.Lts as lts
 use Rattle.names.proofs.extend.Reads as extend-reads
-use Rattle.unroll.proofs.span.Reads as span-reads
+use Rattle.basics.proofs.span.Reads as span-reads
 
 -- src/lib.rt:57:17
 enum-known-value : tie.Need-enum-known-value
