@@ -384,7 +384,13 @@ fn name_again(text: &[u8], start: usize, end: usize, from: Cursor) -> Ended
             next,
         } => {
             if kind == 1 {
-                if names::same_name(text, start, basics::span(start, end), p, basics::span(p, next.at)) {
+                if names::same_name(
+                    text,
+                    start,
+                    basics::span(start, end),
+                    p,
+                    basics::span(p, next.at),
+                ) {
                     return Ended::Past { next };
                 }
                 return Ended::Refused {
