@@ -24,7 +24,7 @@ abbrev isFile : Outcome → Type 0
 isFile (gives l) = Unit {0}
 isFile (refuses n p) = ⊥
 
-no-file : (n p : ℕ) (f : List ℕ) → refuses n p ≡ gives f → ⊥
+pub no-file : (n p : ℕ) (f : List ℕ) → refuses n p ≡ gives f → ⊥
 no-file n p f e = subst isFile (sym e) tt
 
 abbrev bytes : Outcome → List ℕ

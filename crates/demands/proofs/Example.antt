@@ -1,19 +1,18 @@
 -- Document 01, 'The fuse file': the module T has a file, and it is the 244 bytes that document 01 prints. Assumes nothing.
-use mathlib.Core.Path.{_≡_, refl, sym, ap, ap₂, _∙_}
-use mathlib.Core.Bool.{Bool, true, false, not, _&&_, _||_}
+use mathlib.Core.Path.{_≡_, refl, ap, ap₂, _∙_}
+use mathlib.Core.Bool.{Bool, true, _&&_}
 use mathlib.Core.List.{List, [], _∷_, _++_, map}
-use Prim.Native.Nat.{ℕ, zero, suc, _+_, _≤_, _<_}
+use Prim.Native.Nat.{ℕ, zero, suc, _+_, _≤_}
 use native.Mathlib.Omega.{arith}
-use lib.Dec.{T, eqb, ltb, leb}
-use borrow.Author.Tests.{le-leb, ltb-true, eqb-true}
+use lib.Dec.{T, leb}
+use borrow.Author.Tests.{le-leb}
 use lib.ListN.{replicate}
 use Rattle.basics.specs.Choice.{pick, bit}
-use Rattle.basics.proofs.Folds.{all-at, listed-same}
-use Rattle.basics.proofs.Truth.{clash, and-false}
+use Rattle.basics.proofs.Folds.{listed-same}
 use Rattle.device.specs.Device.{enableOf, productsOf, columnOf}
 use Rattle.rows.specs.Row.{pairsFrom, productRow}
 use Rattle.texts.specs.Stages.{Front}
-use Rattle.basics.specs.Below.{anyBelow, allBelow, tally, listed}
+use Rattle.basics.specs.Below.{anyBelow, tally, listed}
 use Rattle.trees.specs.Layout.{nodesAt, classOf}
 use Rattle.trees.specs.Machine.{run, valueOf as trees-valueOf}
 use Rattle.reach.specs.Meeting.{topBelow, meets}
@@ -31,18 +30,16 @@ use Rattle.texts.specs.Calls.{lent, called, compiledOf}
 use Rattle.texts.specs.Stages.{frontOf, wholeOf}
 use Rattle.sums.specs.Product.{Digit}
 use Rattle.engine.specs.Table.{function}
-use Rattle.sums.proofs.Named.{primes-named}
 use Rattle.cover.specs.Mask.{mask}
 use Rattle.cover.specs.Sum.{bitsOf}
-use Rattle.cover.proofs.Joining.{bits-length}
-use Rattle.fit.specs.Fit.{primesOf, fits, taken, refused as noProducts, fitted as fitting}
+use Rattle.fit.specs.Fit.{fits, taken, refused as noProducts, fitted as fitting}
 use Rattle.fit.specs.declared.Fitted.{Fitted}
 use Rattle.circuit.specs.StageFive.{Verdict}
-use Rattle.circuit.specs.StageFive.Verdict.{fine, refused as faulty}
+use Rattle.circuit.specs.StageFive.Verdict.{fine}
 use Rattle.pins.specs.Variables.{maskOf}
 use Rattle.cells.specs.Map.{cellRow, cellAt, rowAt, fuseAt, mapOf}
-use Rattle.outputs.specs.Outputs.{kindOf, tableOf, fittedOut, tooMany, misfits, stageSix, cellOf, mapFor}
-use Rattle.agree.proofs.Basic.{first-passes}
+use Rattle.outputs.specs.Outputs.{kindOf, tableOf, fittedOut, tooMany, stageSix, cellOf, mapFor}
+use Rattle.marked.proofs.Few.{primes-few, six-few}
 use Rattle.fusetext.specs.File.{fileOf}
 use Rattle.fusetext.specs.Outcome.{gives, refuses}
 use Rattle.fusetrip.proofs.Example.{exampleMap, exampleFile, example-file}
@@ -51,11 +48,6 @@ use Rattle.marked.proofs.Fronts.{module-T, parts-T, elements-T, front-T}
 use Rattle.texts.specs.Stages.{unless, fitting as sixth}
 
 -- ---- the complete sum of y, in cell 0
-
--- the primes over all variables, by way of those over the named ones
-few : (named : ℕ) (f : List Bool → Bool) → primesOf named f ≡ map (spread (bitsOf 22 named)) (primes (count (bitsOf 22 named)) f)
-unfolding primesOf
-few named f = sym (ap (λ (k : ℕ). primes k (λ s. f (keep (bitsOf 22 named) s))) (bits-length 22 named)) ∙ primes-named (bitsOf 22 named) f
 
 abbrev named-T : ℕ
 named-T = maskOf elements-T true 1
@@ -71,48 +63,18 @@ fit-with ps = pick (fits 0 ps) (taken true ps) noProducts
 
 fitted-T : fittedOut elements-T 1 ≡ fit-with sum-T
 unfolding fittedOut fitting parts-T nodesAt registers inverts fromEnd
-fitted-T = ap fit-with (few named-T function-T)
+fitted-T = ap fit-with (primes-few named-T function-T)
 
 -- it has two products, which a cell has room for
 sum-fits : fits 0 sum-T ≡ true
 unfolding anyBelow tally listed nodesAt classOf run trees-valueOf fromEnd inverts registers keeps names replaced remains writes uses via topBelow meets firstBelow outAt value showsNext mentions namesPin variablePin columnOf chosen maskBelow flipAt setBits parts-T keep spread count imp drops any filter prime expand products primes number tableOf bitsOf productsOf
 sum-fits = refl
 
--- ---- stage 6 lets T pass
-
-out-fits : fittedOut elements-T 1 .ok ≡ true
-out-fits = ap (λ (t : Fitted). t .ok) fitted-T ∙ ap (λ (b : Bool). pick b (taken true sum-T) noProducts .ok) sum-fits
-
--- y is the only OUT
-only-y : (o : ℕ) → o < 64 → (not (eqb (elements-T .class o) 2) || eqb o 1) ≡ true
-unfolding allBelow classOf parts-T
-only-y o h = all-at (λ k. not (eqb (elements-T .class k) 2) || eqb k 1) 64 refl o h
-
-few-pins : tooMany elements-T 1 ≡ false
-unfolding anyBelow tally listed nodesAt classOf run trees-valueOf fromEnd inverts registers keeps names replaced remains writes uses via topBelow meets firstBelow outAt value showsNext mentions namesPin variablePin columnOf chosen maskBelow flipAt setBits parts-T tooMany
-few-pins = refl
-
-y-fits : misfits elements-T 1 ≡ false
-unfolding misfits
-y-fits = ap (λ (b : Bool). eqb (elements-T .class 1) 2 && (b || not (fittedOut elements-T 1 .ok))) few-pins ∙ ap (λ (b : Bool). eqb (elements-T .class 1) 2 && not b) out-fits ∙ and-false (eqb (elements-T .class 1) 2)
-
-all-fit : (o : ℕ) → o < 64 → misfits elements-T o ≡ false
-unfolding misfits
-all-fit o h = go (eqb (elements-T .class o) 2) refl (eqb o 1) refl (only-y o h)
-  where
-    go : (a : Bool) → eqb (elements-T .class o) 2 ≡ a → (b : Bool) → eqb o 1 ≡ b → (not a || b) ≡ true → (a && (tooMany elements-T o || not (fittedOut elements-T o .ok))) ≡ false
-    go false p b q t = refl
-    go true p false q t = absurd (clash (sym t))
-    go true p true q t = ap (λ (c : Bool). c && (tooMany elements-T o || not (fittedOut elements-T o .ok))) (sym p) ∙ ap (misfits elements-T) (eqb-true o 1 q) ∙ y-fits
+-- ---- stage 6 lets T pass, by way of the pins that y names
 
 six-T : stageSix elements-T ≡ fine
-unfolding stageSix
-six-T = go (ltb (firstBelow (misfits elements-T) 64) 64) refl
-  where
-    go : (b : Bool) → ltb (firstBelow (misfits elements-T) 64) 64 ≡ b
-        → pick b (faulty (pick (tooMany elements-T (firstBelow (misfits elements-T) 64)) 11 12) (elements-T .place (firstBelow (misfits elements-T) 64))) fine ≡ fine
-    go false q = refl
-    go true q = absurd (clash (sym (first-passes (misfits elements-T) 64 q) ∙ all-fit _ (ltb-true _ _ q)))
+unfolding anyBelow tally listed nodesAt classOf run trees-valueOf fromEnd inverts registers keeps names replaced remains writes uses via topBelow meets firstBelow outAt value showsNext mentions namesPin variablePin columnOf chosen maskBelow flipAt setBits parts-T keep spread count imp drops any filter prime expand products primes number tableOf bitsOf tooMany productsOf
+six-T = six-few elements-T
 
 -- ---- its map
 

@@ -10,7 +10,7 @@ use Rattle.basics.proofs.Truth.{clash}
 use Rattle.meaning.specs.Circuit.{Circuit, circuitOf, runs, SameCircuit}
 use Rattle.agree.specs.Pins.{Cycle, seen, seenOf}
 use Rattle.gal.specs.declared.Answer.{Answer}
-use Rattle.fusetext.specs.Outcome.{Outcome, gives, refuses}
+use Rattle.fusetext.specs.Outcome.{gives, refuses}
 use Rattle.fusetrip.proofs.Example.{exampleFile}
 use Rattle.texts.specs.Meaning.{means, circuitIn}
 use Rattle.compilecall.specs.declared.Compiled.the-variants.{Refused}
@@ -33,7 +33,7 @@ use Rattle.gal.specs.Model.{runs as modelRuns}
 use Rattle.fusefields.specs.Bytes.{notEnd, notStar, front}
 use Rattle.fuseread.specs.Reading.{opened, readOf}
 use Rattle.texts.specs.Meaning.{isGiven, settingFor}
-use Rattle.demands.proofs.Accepted.{same-file, same-meaning}
+use Rattle.demands.proofs.Accepted.{no-file, same-file, same-meaning}
 use Rattle.demands.proofs.Demand2.{Carries}
 
 abbrev zeros : ℕ → List ℕ
@@ -117,15 +117,11 @@ writing-nothing s n c = go (leb (length (zeros n)) 65536) (eqb (getD (zeros n) 0
     nought zero = refl
     nought (suc n) = refl
 
-    isFile : Outcome → Type 0
-    isFile (gives l) = Unit {0}
-    isFile (refuses k p) = ⊥
-
     go : (a b : Bool) → b ≡ false
         → pick a (pick b (opened (zeros n) (length (front notEnd (zeros n))) (length (front notStar (drop 1 (take (length (front notEnd (zeros n))) (zeros n)))))) (refuses 20 0)) (refuses 20 (length (zeros n))) ≡ gives (c .fuses) → ⊥
     go true true h e = clash h
-    go true false h e = subst isFile (sym e) tt
-    go false b h e = subst isFile (sym e) tt
+    go true false h e = no-file 20 0 (c .fuses) e
+    go false b h e = no-file 20 (length (zeros n)) (c .fuses) e
 
 -- A model that clocks once and then repeats itself: where T's input is 1 in three cycles, one answer does not stand for the second and the third.
 pub clocking-once : (q r : Answer) → map seen (q ∷ r ∷ r ∷ []) ≡ map (seenOf (circuitOf elements-T)) (runs (circuitOf elements-T) three-cycles) → ⊥

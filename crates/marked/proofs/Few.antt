@@ -2,7 +2,7 @@
 -- can be computed. Assumes nothing.
 use mathlib.Core.Path.{_≡_, sym, ap, ap₂, _∙_, fun-ext}
 use mathlib.Core.Bool.{Bool, true, false, not, _&&_, _||_}
-use mathlib.Core.List.{List}
+use mathlib.Core.List.{List, map}
 use Prim.Native.Nat.{ℕ, _-_}
 use lib.Dec.{eqb, leb, ltb}
 use lib.ListN.{length, length-map}
@@ -22,17 +22,19 @@ use Rattle.circuit.specs.StageFive.Verdict.{fine, refused}
 use Rattle.pins.specs.Variables.{maskOf}
 use Rattle.outputs.specs.Outputs.{tableOf, fittedOut, tooMany, misfits, stageSix}
 
--- whether the primes of f, a function of the named variables, are no more than cell k has products for
+-- the primes over all variables, by way of those over the named ones
+pub primes-few : (named : ℕ) (f : List Bool → Bool) → primesOf named f ≡ map (spread (bitsOf 22 named)) (primes (count (bitsOf 22 named)) f)
+unfolding primesOf
+primes-few named f = sym (ap (λ (k : ℕ). primes k (λ s. f (keep (bitsOf 22 named) s))) (bits-length 22 named)) ∙ primes-named (bitsOf 22 named) f
+
+-- whether they are no more than cell k has products for
 abbrev pub fewFit : ℕ → ℕ → (List Bool → Bool) → Bool
 fewFit k named f = leb (length (primes (count (bitsOf 22 named)) f)) (productsOf k)
 
 pub fits-few : (k named : ℕ) (f : List Bool → Bool) → fits k (primesOf named f) ≡ fewFit k named f
-unfolding primesOf
 fits-few k named f =
     ap (λ (n : ℕ). leb n (productsOf k))
-    (ap (λ (n : ℕ). length (primes n (λ s. f (keep (bitsOf 22 named) s)))) (sym (bits-length 22 named))
-    ∙ ap length (primes-named (bitsOf 22 named) f)
-    ∙ length-map (primes (count (bitsOf 22 named)) f) (spread (bitsOf 22 named)))
+    (ap length (primes-few named f) ∙ length-map (primes (count (bitsOf 22 named)) f) (spread (bitsOf 22 named)))
 
 -- a cell takes the primes of f, or, unless it has a register, those of not f
 abbrev pub okFew : ℕ → Bool → ℕ → (List Bool → Bool) → Bool
