@@ -1,4 +1,6 @@
 // What every program does with standard input: a line of it, and all of it counted to its end.
+#![tactic(auto)]
+
 ghost use Rattle.std.specs.Prelude.{ℕ, ◌≤◌, length};
 
 // Takes what standard input still has, up to 65,536 bytes, and answers how many.
@@ -26,7 +28,7 @@ pub fn whole_length(had: usize) -> usize
 }
 
 // How much of a line was kept, and whether LF ended it.
-#[derive(Drop)]
+#[derive(Clone, Copy)]
 pub struct Line {
     pub len: usize,
     pub ended: bool,

@@ -1,4 +1,6 @@
 // The grader's call: a text, an OUT pin and a product's number in, what that product is to the pin's function out.
+#![tactic(auto)]
+
 ghost use Rattle.std.specs.Prelude.{◌≡◌, ℕ, ◌≤◌, length, replicate};
 ghost use Rattle.trees.specs.Layout.{elements_of};
 ghost use Rattle.circuit.specs.StageFive.{stage_five};
@@ -14,7 +16,7 @@ use outmap::Sixth;
 use question::Asked;
 
 // What a product is to the function asked about, or a refusal.
-#[derive(Drop)]
+#[derive(Clone, Copy)]
 pub enum Graded {
     NoImplicant,
     Implicant,

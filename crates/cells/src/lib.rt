@@ -1,4 +1,6 @@
 // From ten fitted cells to the whole map, and what a fit line counts of a cell.
+#![tactic(auto)]
+
 ghost use Rattle.std.specs.Prelude.{◌≡◌, Bool, true, false, not, List, ℕ, ◌+◌, ◌<◌, ◌≤◌, leb, ltb, length, get_or, take};
 ghost use Rattle.basics.specs.Choice.{bit, pick};
 ghost use Rattle.cells.specs.Map.{used, clocked, cell_at, row_at, row_fuse, s0_fuse, s1_fuse, switch_fuse, map_of, Begun, Written};

@@ -1,4 +1,6 @@
 // Stage 2 of a whole text: words and grammar, literals too large, nesting. Nothing is kept but the places where the later stages start.
+#![tactic(auto)]
+
 ghost use Rattle.std.specs.Prelude.{◌≡◌};
 ghost use Rattle.grammar.specs.Outcome.{levels};
 ghost use Rattle.grammar.specs.Grammar.{nested, part};
@@ -12,14 +14,14 @@ use phrases::{Ended, Go};
 use words::{Cursor, Taken};
 
 // Where the statements start, and where they end.
-#[derive(Drop)]
+#[derive(Clone, Copy)]
 pub enum Body {
     Found { start: usize, next: Cursor },
     Missing { number: u8, place: usize },
 }
 
 // The module's name, from its first byte to the place past it, and what is behind the heading.
-#[derive(Drop)]
+#[derive(Clone, Copy)]
 pub enum Head {
     Named {
         start: usize,
@@ -33,7 +35,7 @@ pub enum Head {
 }
 
 // Where the declarations and the statements of a text start, or its refusal.
-#[derive(Drop)]
+#[derive(Clone, Copy)]
 pub enum Checked {
     Fine {
         declarations: usize,

@@ -1,4 +1,6 @@
 // Stage 5: what is judged over all elements once the statements are unrolled.
+#![tactic(auto)]
+
 ghost use Rattle.std.specs.Prelude.{◌≡◌, Bool, true, false, not, ◌&&◌, ◌||◌, ℕ, ◌+◌, ◌-◌, ◌<◌, ◌≤◌, eqb, length, get_or};
 ghost use Rattle.basics.specs.Choice.{pick, bit, on};
 ghost use Rattle.basics.specs.Below.{any_below};
@@ -11,7 +13,7 @@ ghost use Rattle.circuit.specs.StageFive.{misassigned, misplaced, looped, stands
 ghost use Rattle.circuit.specs.Judged.{seen};
 
 // What stage 5 says of a module.
-#[derive(Drop)]
+#[derive(Clone, Copy)]
 pub enum Judgement {
     Fine,
     Refused { number: u8, place: usize },

@@ -1,4 +1,6 @@
 // The compile call: a text in, its fuse file out.
+#![tactic(auto)]
+
 ghost use Rattle.std.specs.Prelude.{◌≡◌, true, ℕ, ◌≤◌, length, replicate};
 ghost use Rattle.trees.specs.Layout.{elements_of};
 ghost use Rattle.circuit.specs.StageFive.{stage_five};
@@ -15,7 +17,7 @@ use lola::Told;
 use outmap::Sixth;
 
 // The file's length, or a refusal.
-#[derive(Drop)]
+#[derive(Clone, Copy)]
 pub enum Compiled {
     File { len: usize },
     Refused { number: u8, place: usize },

@@ -1,4 +1,6 @@
 // Declarations, judged where they stand in the text: names are handed on by value, elements are written into the memory that is lent.
+#![tactic(auto)]
+
 ghost use Rattle.std.specs.Prelude.{◌≡◌, ◌≤◌, ◌+◌, eqb};
 ghost use Rattle.basics.specs.Choice.{pick};
 ghost use Rattle.integers.specs.Integers.{num};
@@ -15,7 +17,7 @@ use names::Table;
 use words::{Cursor, Taken};
 
 // What was made of a part: mode 0 a refusal, 1 go on, 2 the end; with the names that stand behind it.
-#[derive(Drop)]
+#[derive(Clone, Copy)]
 pub struct Made {
     pub mode: u8,
     pub number: u8,

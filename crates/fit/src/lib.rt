@@ -1,4 +1,6 @@
 // One cell's products and its S0, from the truth table of its function.
+#![tactic(auto)]
+
 ghost use Rattle.std.specs.Prelude.{◌≡◌, Bool, true, false, not, ◌&&◌, ℕ, ◌^◌, ◌<◌, ◌≤◌, eqb, leb, length, replicate};
 ghost use Rattle.basics.specs.Choice.{bit, pick};
 ghost use Rattle.basics.specs.Below.{listed};
@@ -11,7 +13,7 @@ ghost use Rattle.fit.specs.Fit.{refused, inverted, fitted};
 use cover::Products;
 
 // A cell's S0 and its first n products, or a refusal.
-#[derive(Drop)]
+#[derive(Clone, Copy)]
 pub struct Fitted {
     pub ok: bool,
     pub s0: bool,

@@ -1,5 +1,7 @@
 // Fits cells that are given by truth tables. Each line of standard input is `PIN KIND POL NAMED TABLE`, a line `.` ends a batch. For each batch it
 // prints a line for each cell, rising by pin, and the fuse sum of the whole map, or `12 PIN` for the first line that doesn't fit; then `.`.
+#![tactic(auto)]
+
 ghost use Rattle.std.specs.Prelude.{◌≡◌, ◌^◌, ◌<◌, length};
 
 use fit::Fitted;

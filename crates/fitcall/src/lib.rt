@@ -1,4 +1,6 @@
 // The fit program's call: a text in, the lines of its map out.
+#![tactic(auto)]
+
 ghost use Rattle.std.specs.Prelude.{◌≡◌, ℕ, ◌≤◌, length, replicate};
 ghost use Rattle.trees.specs.Layout.{elements_of};
 ghost use Rattle.circuit.specs.StageFive.{stage_five};
@@ -14,7 +16,7 @@ use lola::Told;
 use outmap::Sixth;
 
 // The length of the lines, or a refusal.
-#[derive(Drop)]
+#[derive(Clone, Copy)]
 pub enum Fitted {
     Lines { len: usize },
     Refused { number: u8, place: usize },

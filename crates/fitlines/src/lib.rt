@@ -1,4 +1,6 @@
 // The lines of the fit program.
+#![tactic(auto)]
+
 ghost use Rattle.std.specs.Prelude.{◌≡◌, ℕ, ◌+◌, ◌≤◌, ◌<◌, length};
 ghost use Rattle.fusetext.specs.Put.{Wrote};
 ghost use Rattle.fitlines.specs.Lines.{kind_of, level_of, head_of, line_of, line_if, lines_by};

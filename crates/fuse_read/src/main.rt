@@ -1,4 +1,6 @@
 // Reads a fuse file from standard input and prints its map as 5,892 digits, or a refusal's line.
+#![tactic(auto)]
+
 fn main() {
     let mut file = [0u8; 65537];
     let n = io::read_full(0, &mut file);

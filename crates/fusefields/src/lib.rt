@@ -1,4 +1,6 @@
 // Judges one field of a fuse file (document 01, 'The fuse file', Reading).
+#![tactic(auto)]
+
 pub mod bytes;
 
 ghost use Rattle.std.specs.Prelude.{◌≡◌, ℕ, ◌+◌, ◌≤◌, ◌<◌, length};
@@ -7,7 +9,7 @@ ghost use Rattle.fusefields.specs.Fields.{one, number_fault, judge_f, judge_g, j
 use bytes::{count_fuses, hex4_of, is_fuse, put_fuses, run, value_of};
 
 // What has been seen: whether QF, QP, G and L came, F's value (2: none), and C's (65,536: none).
-#[derive(Drop)]
+#[derive(Clone, Copy)]
 pub struct Seen {
     pub qf: bool,
     pub qp: bool,
@@ -18,7 +20,7 @@ pub struct Seen {
 }
 
 // What a field does: what has been seen then, or a refusal's number.
-#[derive(Drop)]
+#[derive(Clone, Copy)]
 pub enum Judged {
     Good(Seen),
     Bad(u8),

@@ -1,4 +1,6 @@
 // Reads a fuse file into a map (document 01, 'The fuse file', Reading).
+#![tactic(auto)]
+
 ghost use Rattle.std.specs.Prelude.{◌≡◌, ℕ, ◌+◌, ◌≤◌, ◌<◌, length, drop, take, eqb};
 ghost use Rattle.basics.specs.Choice.{pick};
 ghost use Rattle.fusetext.specs.Put.{Wrote};
@@ -13,7 +15,7 @@ use fusetext::field::put_text;
 use fusetext::scan::{is_bits, sum_of, weigh_of};
 
 // Where reading the fields ended.
-#[derive(Drop)]
+#[derive(Clone, Copy)]
 pub enum Walk {
     Ended(Seen),
     Fault(u8, usize),
@@ -60,7 +62,7 @@ fn fields(s: &[u8], start: usize, cells: &mut [u8]) -> Walk
 }
 
 // What reading a file answers: a map, which is lent, or a refusal.
-#[derive(Drop)]
+#[derive(Clone, Copy)]
 pub enum Reading {
     Map,
     Refused { number: u8, place: usize },

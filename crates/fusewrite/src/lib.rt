@@ -1,4 +1,6 @@
 // Writes the fuse file of a map (document 01, 'The fuse file').
+#![tactic(auto)]
+
 ghost use Rattle.std.specs.Prelude.{◌≡◌, ℕ, ◌+◌, ◌≤◌, ◌<◌, length};
 ghost use Rattle.fusetext.specs.Put.{Wrote};
 ghost use Rattle.fusetext.specs.File.{listing_if, rows, checking, fields_of, file_of, Bits};
@@ -8,7 +10,7 @@ use fusetext::field::{put_hex4, put_listing, put_text};
 use fusetext::scan::{is_bits, is_zero, sum_of, weigh_of};
 
 // The file's length, or a refusal.
-#[derive(Drop)]
+#[derive(Clone, Copy)]
 pub enum Written {
     File { len: usize },
     Refused { number: u8, place: usize },

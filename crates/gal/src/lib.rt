@@ -1,18 +1,20 @@
 // The device: rows and cells of a map.
+#![tactic(auto)]
+
 ghost use Rattle.std.specs.Prelude.{◌≡◌, ◌&&◌, ◌<◌, length};
 ghost use Rattle.rows.specs.Row.{joins, pair_true};
 ghost use Rattle.gal.specs.Map.{row_is, plain_out, registered, enabled, row_true, total};
 ghost use Rattle.gal.specs.Refuse.{dead};
 
 // Whether the device shows its pins, or the model refuses.
-#[derive(Drop)]
+#[derive(Clone, Copy)]
 pub enum Verdict {
     Shown,
     Refused { number: u8, place: usize },
 }
 
 // The pins shown, their values, and the registers after the clock: pins 1 to 24, registers of pins 14 to 23.
-#[derive(Drop)]
+#[derive(Clone, Copy)]
 pub struct Answer {
     pub verdict: Verdict,
     pub shown: [u8; 24],

@@ -1,5 +1,6 @@
 // Runs the model on standard input. The first line is a map, in digits; each line after it gives ten digits, the registers of pins 14 to 23, a blank, and
 // twenty-four digits, pins 1 to 24. Each is answered by a line: the pins shown, their values, the registers after the clock; or a refusal.
+#![tactic(auto)]
 
 // Answers a line.
 fn put_answer(map: &[u8], line: &[u8]) {

@@ -1,4 +1,6 @@
 // The model's lines: what is asked in digits is answered in digits.
+#![tactic(auto)]
+
 ghost use Rattle.std.specs.Prelude.{◌≡◌, ◌&&◌, ◌++◌, ◌+◌, ◌<◌, ◌≤◌, eqb, length, get_or, drop};
 ghost use Rattle.basics.specs.Below.{listed};
 ghost use Rattle.fusetext.specs.Put.{Wrote};

@@ -1,4 +1,6 @@
 // The model: what a map shows, and what its registers hold after the clock.
+#![tactic(auto)]
+
 ghost use Rattle.std.specs.Prelude.{◌≡◌, not, ◌<◌, length};
 ghost use Rattle.basics.specs.Choice.{bit, on, xor};
 ghost use Rattle.gal.specs.Map.{signal, signals};

@@ -1,4 +1,6 @@
 // What the model refuses: no map (31), a map outside the model (30), values that are not the caller's to give (32).
+#![tactic(auto)]
+
 ghost use Rattle.std.specs.Prelude.{◌≡◌, ◌&&◌, ◌||◌, ◌<◌, ltb, length, get_or};
 ghost use Rattle.basics.specs.Choice.{on};
 ghost use Rattle.basics.specs.Below.{any_below};

@@ -1,5 +1,7 @@
 // What the parts of an expression are, each judged for a sort: 0 only to be checked, 1 for a number, 2 for a signal, 3 for a signal that is not
 // counted. One function writes: a signal's nodes go to the room that is lent, operands first, and the count says how many are there.
+#![tactic(auto)]
+
 ghost use Rattle.std.specs.Prelude.{◌≡◌, true, false};
 ghost use Rattle.integers.specs.Integers.{num};
 ghost use Rattle.grammar.specs.Outcome.{built_at};
@@ -12,7 +14,7 @@ use names::Found;
 use words::{Cursor, Taken};
 
 // What a reader answers: a number (0 where no number is wanted), the count of nodes and the cursor past the part; or a refusal and the count.
-#[derive(Drop)]
+#[derive(Clone, Copy)]
 pub enum Read {
     Value {
         value: Num,
@@ -27,7 +29,7 @@ pub enum Read {
 }
 
 // One turn of a chain of operators: go on, the end of the chain, or a refusal.
-#[derive(Drop)]
+#[derive(Clone, Copy)]
 pub enum Step {
     More {
         value: Num,
@@ -46,20 +48,20 @@ pub enum Step {
     },
 }
 
-#[derive(Drop)]
+#[derive(Clone, Copy)]
 pub enum Judged {
     Number(Num),
     Node(u32),
     Fault { number: u8, place: usize },
 }
 
-#[derive(Drop)]
+#[derive(Clone, Copy)]
 pub enum Opened {
     Base { first: u16, size: u16 },
     Bad { number: u8, place: usize },
 }
 
-#[derive(Drop)]
+#[derive(Clone, Copy)]
 pub enum Meant {
     Valued(Num),
     Signal { first: u16, size: u16 },

@@ -1,5 +1,7 @@
 // The calls of Kinvlopt, each passed on from the crate that proves it: a text to its fuse file, to its fit lines and to the answer to a grader's
 // question; a fuse file to its map and back; a map to what the device shows.
+#![tactic(auto)]
+
 pub use askcall::{Graded, ask};
 pub use compilecall::{Compiled, compile};
 pub use fitcall::{Fitted, fit};

@@ -1,4 +1,6 @@
 // Lines that the programs write and take: decimal numbers, a refusal's line, a line of 0 and 1.
+#![tactic(auto)]
+
 ghost use Rattle.std.specs.Prelude.{◌≡◌, ℕ, ◌+◌, ◌≤◌, ◌<◌, length, drop, eqb};
 ghost use Rattle.basics.specs.Choice.{pick};
 ghost use Rattle.fusetext.specs.Put.{Wrote};

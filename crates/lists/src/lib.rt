@@ -1,4 +1,6 @@
 // A list of signals: its names are new, and its type.
+#![tactic(auto)]
+
 ghost use Rattle.std.specs.Prelude.{◌≡◌, ◌-◌, ◌%◌, ◌^◌, ◌<◌, get_or};
 ghost use Rattle.integers.specs.Integers.{num};
 ghost use Rattle.names.specs.Names.{looked_up, spelling};
@@ -12,7 +14,7 @@ use names::Found;
 use words::{Cursor, Taken};
 
 // One word along a list: go on, its end with what was found, or a refusal.
-#[derive(Drop)]
+#[derive(Clone, Copy)]
 pub enum Walk {
     On { next: Cursor },
     End { value: u8, next: Cursor },
@@ -20,7 +22,7 @@ pub enum Walk {
 }
 
 // Past the `:` of a list, or a refusal.
-#[derive(Drop)]
+#[derive(Clone, Copy)]
 pub enum Came {
     Past { value: u8, next: Cursor },
     Twice { number: u8, place: usize },

@@ -1,4 +1,6 @@
 // Stages 1 to 5 of a text: its length, its grammar, its declarations, its statements, and all its names.
+#![tactic(auto)]
+
 ghost use Rattle.std.specs.Prelude.{◌≡◌, ℕ, ◌≤◌, replicate};
 ghost use Rattle.names.specs.Names.{held};
 ghost use Rattle.declare.specs.Declarations.{declarationsOf};
@@ -12,7 +14,7 @@ use names::Table;
 use words::Cursor;
 
 // What is told of a text: it is let pass, or its refusal.
-#[derive(Drop)]
+#[derive(Clone, Copy)]
 pub enum Told {
     Fine,
     Refused { number: u8, place: usize },

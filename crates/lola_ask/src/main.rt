@@ -1,6 +1,8 @@
 // Reads a text from standard input and takes two decimal numbers of any size as arguments, an OUT pin and a product's number. Prints 0 for no
 // implicant, 1 for an implicant and 2 for a prime, or a refusal's line. A text that is too long is refused by its first 32,769 bytes. With other
 // arguments it reads nothing and prints only its usage, on standard error.
+#![tactic(auto)]
+
 use numerals::Numeral;
 
 // The answer to a question about the text on standard input.

@@ -1,4 +1,6 @@
 // Reads a text from standard input and prints its fuse file, or a refusal's line. A text that is too long is refused by its first 32,769 bytes.
+#![tactic(auto)]
+
 fn main() {
     let mut text = [0u8; 32769];
     let n = io::read_full(0, &mut text);

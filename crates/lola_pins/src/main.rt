@@ -1,5 +1,7 @@
 // Reads a text from standard input and prints a line for each element of IN and OUT, in declaration order: its pin, IN or OUT, and the byte where its
 // name is declared; or a refusal's line, of the stages before outputs are fitted. A text that is too long is refused by its first 32,769 bytes.
+#![tactic(auto)]
+
 ghost use Rattle.std.specs.Prelude.{◌<◌};
 
 use lola::Told;

@@ -1,1 +1,3 @@
 // Theorems only: what the definitions say of the examples that document 01 marks.
+#![tactic(auto)]
+

@@ -1,4 +1,6 @@
 // The values of all elements on a setting of the pins, each found once.
+#![tactic(auto)]
+
 ghost use Rattle.std.specs.Prelude.{◌≡◌, Bool, true, false, not, ◌&&◌, ◌||◌, List, ℕ, ◌+◌, ◌-◌, ◌*◌, ◌/◌, ◌%◌, ◌<◌, ◌≤◌, length, get_or, set, take};
 ghost use Rattle.basics.specs.Choice.{pick, bit, on};
 ghost use Rattle.basics.specs.Below.{tally, listed};

@@ -2,10 +2,12 @@
 // They are lent as numbers, five for a name: the place and the length of its spelling, its kind (1 a constant, 2 a signal, 3 a loop
 // variable), value and size. A number is held as value, size 0, or as -(value + 1), size 1; a signal as its first element and 0 for a BIT, else
 // the array's length.
+#![tactic(auto)]
+
 ghost use Rattle.std.specs.Prelude.{◌≡◌, [], ◌∷◌, ◌≤◌, ◌-◌, length, drop};
 ghost use Rattle.names.specs.Names.{spelling, alike, same, seen_found, looked_up, extended, held};
 
-#[derive(Drop)]
+#[derive(Clone, Copy)]
 pub enum Found {
     Known { kind: u16, value: u16, size: u16 },
     Unknown,
@@ -72,7 +74,7 @@ pub fn look_up(text: &[u8], names: &[u16], start: usize, n: usize) -> Found
 }
 
 // The names that stand at a place, by value: from top on.
-#[derive(Drop)]
+#[derive(Clone, Copy)]
 pub struct Table {
     pub top: usize,
     pub words: [u16; 640],

@@ -1,10 +1,12 @@
 // A word of decimal digits as a number.
+#![tactic(auto)]
+
 ghost use Rattle.std.specs.Prelude.{◌≡◌, ℕ, ◌-◌, ◌≤◌, min};
 ghost use Rattle.fusefields.specs.Bytes.{value};
 ghost use Rattle.numerals.specs.Numerals.{numeral_of};
 
 // What a word stands for. A number above 10 ^ 18 is answered as 10 ^ 18.
-#[derive(Drop)]
+#[derive(Clone, Copy)]
 pub enum Numeral {
     Number { value: usize },
     Nothing,

@@ -1,4 +1,6 @@
 // Stage 6 over all elements, and the map of a module whose outputs all fit.
+#![tactic(auto)]
+
 ghost use Rattle.std.specs.Prelude.{◌≡◌, Bool, true, false, not, ◌&&◌, List, ◌++◌, ℕ, ◌+◌, ◌-◌, ◌*◌, ◌^◌, ◌<◌, ◌≤◌, eqb, length, get_or, take, replicate, set};
 ghost use Rattle.basics.specs.Choice.{pick, bit};
 ghost use Rattle.basics.specs.Below.{listed};
@@ -14,7 +16,7 @@ ghost use Rattle.outmap.specs.Sixth.{seen, after, facts_of, placed, number_of, F
 use outputs::Tried;
 
 // What stage 6 says of a module.
-#[derive(Drop)]
+#[derive(Clone, Copy)]
 pub enum Sixth {
     Fine,
     Refused { number: u8, place: usize },

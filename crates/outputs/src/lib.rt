@@ -1,4 +1,6 @@
 // The outputs of a module: each OUT fitted to its cell, and the map of all ten.
+#![tactic(auto)]
+
 ghost use Rattle.std.specs.Prelude.{◌≡◌, Bool, true, false, not, ◌&&◌, List, ◌++◌, ℕ, ◌+◌, ◌-◌, ◌*◌, ◌^◌, ◌<◌, ◌≤◌, length, get_or, take, replicate, set};
 ghost use Rattle.basics.specs.Choice.{pick, bit};
 ghost use Rattle.trees.specs.Layout.{elements_of, class_of};
@@ -9,7 +11,7 @@ ghost use Rattle.outputs.specs.Outputs.{table_of};
 ghost use Rattle.outputs.specs.Trial.{tried_of};
 
 // What comes of one OUT: number 0, its S0 and its first n products, or the number of its refusal.
-#[derive(Drop)]
+#[derive(Clone, Copy)]
 pub struct Tried {
     pub number: u8,
     pub s0: bool,

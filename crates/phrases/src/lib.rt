@@ -1,4 +1,6 @@
 // Stage 2 of expressions and statements: words and grammar, literals too large, nesting. Nothing is kept but where they end.
+#![tactic(auto)]
+
 ghost use Rattle.std.specs.Prelude.{◌≡◌, false};
 ghost use Rattle.grammar.specs.Grammar.{expression, named, nested};
 ghost use Rattle.grammar.specs.Trees.{checks};
@@ -10,14 +12,14 @@ use judging::Read;
 use words::{Cursor, Taken};
 
 // Where a part ends, or its refusal.
-#[derive(Drop)]
+#[derive(Clone, Copy)]
 pub enum Ended {
     Past { next: Cursor },
     Refused { number: u8, place: usize },
 }
 
 // One turn of a list: go on, the list's end, or a refusal.
-#[derive(Drop)]
+#[derive(Clone, Copy)]
 pub enum Go {
     More { next: Cursor },
     Last { next: Cursor },

@@ -1,4 +1,6 @@
 // The pins that an OUT's equation names, and the variables of its truth tables.
+#![tactic(auto)]
+
 ghost use Rattle.std.specs.Prelude.{◌≡◌, Bool, true, false, not, ◌&&◌, ◌||◌, List, ℕ, ◌+◌, ◌-◌, ◌*◌, ◌<◌, ◌≤◌, length, get_or, set, take, replicate, eqb};
 ghost use Rattle.basics.specs.Choice.{pick, bit, on};
 ghost use Rattle.basics.specs.Below.{any_below, listed};
@@ -151,7 +153,7 @@ fn weight_if(named: bool, w: u32) -> u32
 }
 
 // How many variables are named, and which of the 22.
-#[derive(Drop)]
+#[derive(Clone, Copy)]
 pub struct Chosen {
     pub count: usize,
     pub mask: u32,

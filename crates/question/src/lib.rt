@@ -1,4 +1,6 @@
 // The product question: whether a product is an implicant of an OUT's function, and whether it is prime.
+#![tactic(auto)]
+
 ghost use Rattle.std.specs.Prelude.{◌≡◌, Bool, true, false, ℕ, ◌+◌, ◌^◌, ◌<◌, ◌≤◌, length, replicate};
 ghost use Rattle.trees.specs.Layout.{elements_of};
 ghost use Rattle.circuit.specs.StageFive.{stage_five};
@@ -8,7 +10,7 @@ ghost use Rattle.outputs.specs.Outputs.{stage_six};
 ghost use Rattle.question.specs.Question.{question_table, asked_of, asked};
 
 // 0 no implicant, 1 implicant, 2 prime; or a refusal.
-#[derive(Drop)]
+#[derive(Clone, Copy)]
 pub enum Asked {
     Verdict { grade: u8 },
     Refused { number: u8, place: usize },

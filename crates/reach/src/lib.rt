@@ -1,4 +1,6 @@
 // Which elements are replaced by their equations, and which meets which as they are.
+#![tactic(auto)]
+
 ghost use Rattle.std.specs.Prelude.{◌≡◌, Bool, true, false, not, ◌&&◌, ◌||◌, List, ℕ, ◌+◌, ◌-◌, ◌<◌, ◌≤◌, length, get_or, replicate};
 ghost use Rattle.basics.specs.Choice.{pick, bit, on};
 ghost use Rattle.basics.specs.Below.{any_below};

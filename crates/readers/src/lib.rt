@@ -1,6 +1,8 @@
 // Expressions, read where they stand in the text, for a sort: 0 only to be checked, 1 for a number, 2 for a signal, 3 for a signal that is not
 // counted. Readers of expression, term, factor and index call one another over what is left of the text. Each takes a cursor and hands back the
 // value with the next cursor, or the refusal with its place. Nesting is bounded by the levels left.
+#![tactic(auto)]
+
 ghost use Rattle.std.specs.Prelude.{◌≡◌, true, false};
 ghost use Rattle.integers.specs.Integers.{num};
 ghost use Rattle.judging.specs.Reading.{seen, seen_step};

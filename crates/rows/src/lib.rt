@@ -1,4 +1,6 @@
 // Rows of fuses: open, dead, of a product, of a cell's feedback.
+#![tactic(auto)]
+
 ghost use Rattle.std.specs.Prelude.{◌≡◌, ◌+◌, ◌*◌, ◌%◌, ◌<◌, replicate};
 ghost use Rattle.basics.specs.Choice.{bit, on};
 ghost use Rattle.rows.specs.Row.{plain_fuse, inverse_fuse, product_row, feedback, feedback_fuse, feedback_row};
@@ -7,7 +9,7 @@ ghost use Rattle.rows.specs.Row.{plain_fuse, inverse_fuse, product_row, feedback
 pub type Product = u64;
 
 // A row of 44 fuses, in the order of the columns.
-#[derive(Drop)]
+#[derive(Clone, Copy)]
 pub struct Row {
     pub fuses: [u8; 44],
 }

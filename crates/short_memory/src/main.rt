@@ -1,5 +1,7 @@
 // Calls each call of the library that is lent memory with just enough of it and with a byte less, all bytes 7 before, and prints what is answered and what
 // the memory holds then: refusal 13 leaves the output as it was, and the working room is zeroed either way.
+#![tactic(auto)]
+
 use kinvlopt::{Compiled, Fitted, Graded, Written};
 
 // Whether all bytes are b.

@@ -1,4 +1,6 @@
 // Simple statements, carried out where they stand in the text: assignments and positions are written into the memory that is lent.
+#![tactic(auto)]
+
 ghost use Rattle.std.specs.Prelude.{◌≡◌, ◌+◌, ◌-◌, eqb};
 ghost use Rattle.basics.specs.Choice.{pick};
 ghost use Rattle.integers.specs.Integers.{num};
@@ -12,7 +14,7 @@ use judging::{Meant, Read, Step};
 use words::{Cursor, Taken};
 
 // The target of an assignment or a position.
-#[derive(Drop)]
+#[derive(Clone, Copy)]
 pub enum Aim {
     Element { element: u32, next: Cursor },
     Missed { number: u8, place: usize },

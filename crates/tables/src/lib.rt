@@ -1,4 +1,6 @@
 // Truth tables of an OUT's function, over the variables that it names.
+#![tactic(auto)]
+
 ghost use Rattle.std.specs.Prelude.{◌≡◌, Bool, true, false, not, ◌&&◌, ◌||◌, List, ◌++◌, ℕ, ◌+◌, ◌-◌, ◌*◌, ◌/◌, ◌%◌, ◌^◌, ◌<◌, ◌≤◌, eqb, length, get_or, set, take, drop};
 ghost use Rattle.basics.specs.Choice.{pick, bit, on, xor};
 ghost use Rattle.basics.specs.Below.{listed};
@@ -17,7 +19,7 @@ ghost use Rattle.tables.specs.Memory.{InOrder, Pins};
 ghost use Rattle.tables.specs.Answered.{seen};
 
 // How many variables a table has and which of the 22, or where the name is declared whose equation names too many pins.
-#[derive(Drop)]
+#[derive(Clone, Copy)]
 pub enum Answer {
     Table { count: usize, mask: u32 },
     TooMany { place: usize },

@@ -1,5 +1,7 @@
 // What the programs over texts do between reading and printing: each function writes what is printed into the output lent, and answers how long it
 // is. The working room is zeroed.
+#![tactic(auto)]
+
 ghost use Rattle.std.specs.Prelude.{◌≡◌, ℕ, ◌≤◌, length, replicate};
 ghost use Rattle.fusetext.specs.Put.{Wrote};
 ghost use Rattle.textverbs.specs.Answers.{compileAnswer, fitAnswer, askAnswer};

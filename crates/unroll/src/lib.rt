@@ -1,4 +1,6 @@
 // Statements and FOR, carried out where they stand in the text: the body of a FOR is read again for each round.
+#![tactic(auto)]
+
 ghost use Rattle.std.specs.Prelude.{◌≡◌, ◌≤◌, pos};
 ghost use Rattle.integers.specs.Integers.{num};
 ghost use Rattle.names.specs.Names.{held};
@@ -11,7 +13,7 @@ use names::Table;
 use words::{Cursor, Taken};
 
 // One word of a body that is passed over.
-#[derive(Drop)]
+#[derive(Clone, Copy)]
 pub enum Pass {
     Deeper { level: u8, next: Cursor },
     Ended { next: Cursor },
@@ -19,14 +21,14 @@ pub enum Pass {
 }
 
 // The place past a body's END.
-#[derive(Drop)]
+#[derive(Clone, Copy)]
 pub enum Over {
     Behind { next: Cursor },
     Cut { number: u8, place: usize },
 }
 
 // What stands before the body of a FOR.
-#[derive(Drop)]
+#[derive(Clone, Copy)]
 pub enum Header {
     Bounds {
         start: usize,

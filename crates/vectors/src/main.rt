@@ -3,10 +3,12 @@
 // what the verb's own program prints for those of the record: `compile` as lola_compile, `fit` as lola_fit, `ask PIN NUMBER` as lola_ask,
 // `read` as fuse_read, `write` as fuse_write, `model` as gal_model. Any other verb is answered with no byte, and so is a `model` of more than
 // 65,537 bytes.
+#![tactic(auto)]
+
 ghost use Rattle.std.specs.Prelude.{◌≡◌, ℕ, ◌≤◌, length};
 
 // A record's first line: the first letter of its verb, its last three numbers, each 0 where there are fewer, and whether its LF was there.
-#[derive(Drop)]
+#[derive(Clone, Copy)]
 struct Head {
     verb: u8,
     first: usize,

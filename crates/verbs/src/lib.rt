@@ -1,4 +1,6 @@
 // What the programs do between reading and printing: each function writes what is printed into the room lent, and answers how long it is.
+#![tactic(auto)]
+
 ghost use Rattle.std.specs.Prelude.{◌≡◌, [], ℕ, ◌+◌, ◌*◌, ◌≤◌, length, take, drop};
 ghost use Rattle.fusetext.specs.Put.{Wrote};
 ghost use Rattle.gallines.specs.Lines.{answer_to};

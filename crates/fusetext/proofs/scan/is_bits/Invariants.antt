@@ -1,0 +1,14 @@
+use native.Mathlib.Omega.{arith}
+use mathlib.Core.Path.{◌≡◌, refl, sym, ap, ◌∙◌}
+use Prim.Native.Nat.{ℕ, ◌+◌, ◌-◌, ◌*◌, ◌≤◌}
+use lib.ListN.{length, get_or, drop}
+use borrow.Author.Tests.{lt-leb, le-leb}
+use Rattle.fusetext.proofs.Files.{bits_next, bits_none}
+use Rattle.fusetext.specs.File.{bits}
+use Rattle.fusetext.proofs.scan.is_bits.Given as goal
+
+abbrev pub invariant-loop-j : goal.invariant-loop-j
+invariant-loop-j l = (bits (drop l.j l.s) ≡ bits l.s) × (l.j ≤ length l.s)
+
+abbrev pub decreases-loop-j : goal.decreases-loop-j
+decreases-loop-j l = length l.s - l.j

@@ -1,0 +1,12 @@
+use native.Mathlib.Omega.{arith}
+use mathlib.Core.Path.{◌≡◌, refl, sym, ap, ◌∙◌}
+use Prim.Native.Nat.{ℕ, ◌+◌, ◌-◌, ◌*◌, ◌≤◌}
+use lib.ListN.{length, get_or, drop}
+use Rattle.fusetext.proofs.Weights.{weigh, weigh_one, weigh_zero, weigh_none, weigh_map}
+use Rattle.fusetext.proofs.scan.weigh_of.Given as goal
+
+abbrev pub invariant-loop-j : goal.invariant-loop-j
+invariant-loop-j l = (l.acc + weigh l.j (drop l.j l.s) ≡ weigh 0 l.s) × (l.j ≤ length l.s) × (l.acc ≤ 128 * l.j)
+
+abbrev pub decreases-loop-j : goal.decreases-loop-j
+decreases-loop-j l = length l.s - l.j

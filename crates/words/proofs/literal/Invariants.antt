@@ -1,0 +1,16 @@
+use borrow.Author.Rules.{rules}
+use native.Mathlib.Omega.{arith}
+use mathlib.Core.Path.{◌≡◌, refl, sym, ap, ◌∙◌}
+use mathlib.Core.List.{List}
+use Prim.Native.Nat.{ℕ, ◌+◌, ◌-◌, ◌*◌, ◌≤◌, ◌<◌}
+use lib.ListN.{length, get_or, drop}
+use Rattle.words.specs.Words.{value_of, capped}
+use Rattle.words.proofs.Laws.{value_stop, value_end}
+use Rattle.words.proofs.Values.{capped_held, digit_more}
+use Rattle.words.proofs.literal.Given as goal
+
+abbrev pub invariant-loop-i : goal.invariant-loop-i
+invariant-loop-i l = (l.v ≤ 65536) × (capped (value_of l.v (drop l.i l.text)) ≡ capped (value_of 0 (drop l.from l.text)))
+
+abbrev pub decreases-loop-i : goal.decreases-loop-i
+decreases-loop-i l = length l.text - l.i

@@ -1,0 +1,53 @@
+use borrow.Author.Rules.{rules}
+use borrow.Author.Tests.{le-ltb, lt-ltb, le-leb, lt-leb, eq-eqb, ne_eqb}
+use Rattle.words.specs.Words.{of_three}
+use Rattle.words.proofs.of_three.Goals as goal
+
+pub returns-then-spelled : goal.returns-then-spelled
+unfolding of_three
+returns-then-spelled c = simp (c.if-spelled.true, ← c.spelled.ensures)
+
+pub returns-then-spelled-2 : goal.returns-then-spelled-2
+unfolding of_three
+returns-then-spelled-2 c =
+    simp (c.if-spelled-2.true, ← c.spelled-2.ensures, c.if-spelled.false, ← c.spelled.ensures)
+
+pub returns-then-spelled-3 : goal.returns-then-spelled-3
+unfolding of_three
+returns-then-spelled-3 c =
+    simp (c.if-spelled-3.true, ← c.spelled-3.ensures, c.if-spelled-2.false, ← c.spelled-2.ensures, c.if-spelled.false, ← c.spelled.ensures)
+
+pub returns-then-spelled-4 : goal.returns-then-spelled-4
+unfolding of_three
+returns-then-spelled-4 c =
+    simp (c.if-spelled-4.true, ← c.spelled-4.ensures, c.if-spelled-3.false, ← c.spelled-3.ensures, c.if-spelled-2.false, ← c.spelled-2.ensures, c.if-spelled.false, ← c.spelled.ensures)
+
+pub returns-then-spelled-5 : goal.returns-then-spelled-5
+unfolding of_three
+returns-then-spelled-5 c =
+    simp (c.if-spelled-5.true, ← c.spelled-5.ensures, c.if-spelled-4.false, ← c.spelled-4.ensures, c.if-spelled-3.false, ← c.spelled-3.ensures, c.if-spelled-2.false, ← c.spelled-2.ensures, c.if-spelled.false, ← c.spelled.ensures)
+
+pub returns-then-spelled-6 : goal.returns-then-spelled-6
+unfolding of_three
+returns-then-spelled-6 c =
+    simp (c.if-spelled-6.true, ← c.spelled-6.ensures, c.if-spelled-5.false, ← c.spelled-5.ensures, c.if-spelled-4.false, ← c.spelled-4.ensures, c.if-spelled-3.false, ← c.spelled-3.ensures, c.if-spelled-2.false, ← c.spelled-2.ensures, c.if-spelled.false, ← c.spelled.ensures)
+
+pub returns-then-spelled-7 : goal.returns-then-spelled-7
+unfolding of_three
+returns-then-spelled-7 c =
+    simp (c.if-spelled-7.true, ← c.spelled-7.ensures, c.if-spelled-6.false, ← c.spelled-6.ensures, c.if-spelled-5.false, ← c.spelled-5.ensures, c.if-spelled-4.false, ← c.spelled-4.ensures, c.if-spelled-3.false, ← c.spelled-3.ensures, c.if-spelled-2.false, ← c.spelled-2.ensures, c.if-spelled.false, ← c.spelled.ensures)
+
+pub returns-then-spelled-8 : goal.returns-then-spelled-8
+unfolding of_three
+returns-then-spelled-8 c =
+    simp (c.if-spelled-8.true, ← c.spelled-8.ensures, c.if-spelled-7.false, ← c.spelled-7.ensures, c.if-spelled-6.false, ← c.spelled-6.ensures, c.if-spelled-5.false, ← c.spelled-5.ensures, c.if-spelled-4.false, ← c.spelled-4.ensures, c.if-spelled-3.false, ← c.spelled-3.ensures, c.if-spelled-2.false, ← c.spelled-2.ensures, c.if-spelled.false, ← c.spelled.ensures)
+
+pub returns-then-spelled-9 : goal.returns-then-spelled-9
+unfolding of_three
+returns-then-spelled-9 c =
+    simp (c.if-spelled-9.true, ← c.spelled-9.ensures, c.if-spelled-8.false, ← c.spelled-8.ensures, c.if-spelled-7.false, ← c.spelled-7.ensures, c.if-spelled-6.false, ← c.spelled-6.ensures, c.if-spelled-5.false, ← c.spelled-5.ensures, c.if-spelled-4.false, ← c.spelled-4.ensures, c.if-spelled-3.false, ← c.spelled-3.ensures, c.if-spelled-2.false, ← c.spelled-2.ensures, c.if-spelled.false, ← c.spelled.ensures)
+
+pub returns : goal.returns
+unfolding of_three
+returns c =
+    simp (c.if-spelled-9.false, ← c.spelled-9.ensures, c.if-spelled-8.false, ← c.spelled-8.ensures, c.if-spelled-7.false, ← c.spelled-7.ensures, c.if-spelled-6.false, ← c.spelled-6.ensures, c.if-spelled-5.false, ← c.spelled-5.ensures, c.if-spelled-4.false, ← c.spelled-4.ensures, c.if-spelled-3.false, ← c.spelled-3.ensures, c.if-spelled-2.false, ← c.spelled-2.ensures, c.if-spelled.false, ← c.spelled.ensures)

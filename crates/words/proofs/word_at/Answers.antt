@@ -1,0 +1,13 @@
+use borrow.Author.Rules.{rules}
+use borrow.Author.Tests.{le-ltb, lt-ltb, le-leb, lt-leb, eq-eqb, ne_eqb}
+use Rattle.words.specs.Words.{word_at}
+use Rattle.words.proofs.word_at.Goals as goal
+
+pub returns-then-start-text : goal.returns-then-start-text
+unfolding word_at
+returns-then-start-text c =
+    simp (← c.form_at.ensures, lt-ltb _ _ c.if-start-text.true, lt-leb _ _ c.if-start-text.true)
+
+pub returns : goal.returns
+unfolding word_at
+returns c = simp (le-leb _ _ c.if-start-text.false, le-ltb _ _ c.if-start-text.false)
