@@ -1,7 +1,5 @@
 use Rattle.trees.proofs.Runs.{end_full, first_small}
 use native.Mathlib.Omega.{arith}
-use borrow.Author.Rules.{rules}
-use borrow.Author.Tests.{le-ltb, lt-ltb, le-leb, lt-leb, eq-eqb, ne_eqb}
 use Rattle.trees.specs.Runs.{end_in}
 use Rattle.trees.proofs.end_of.Goals as goal
 
@@ -12,7 +10,7 @@ returns-then-size-gt2048 c = end_full _ _ _ _ c.at-size.ensures c.if-size-gt2048
 pub returns : goal.returns
 unfolding end_in
 returns c =
-    simp (← c.lower.ensures, le-leb _ _ c.if-size-gt2048.false, le-ltb _ _ c.if-size-gt2048.false, ← c.at-size.ensures, ← c.first_of-first.ensures, ← c.lower-limit.ensures)
+    simp (← c.lower.ensures, ← c.at-size.ensures, ← c.first_of-first.ensures, ← c.lower-limit.ensures)
 
 pub overflow_add-first : goal.overflow_add-first
 overflow_add-first c = let a = first_small _ _ _ c.first_of-first.ensures in omega (arith, c.if-size-gt2048.false)

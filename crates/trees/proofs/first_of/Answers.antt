@@ -1,5 +1,3 @@
-use borrow.Author.Rules.{rules}
-use borrow.Author.Tests.{le-ltb, lt-ltb, le-leb, lt-leb, eq-eqb, ne_eqb}
 use Rattle.trees.specs.Runs.{first_in}
 use Rattle.trees.proofs.first_of.Goals as goal
 

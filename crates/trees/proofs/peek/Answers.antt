@@ -2,7 +2,6 @@ use Rattle.trees.proofs.Stack.{at_tops, beyond_tops}
 use borrow.Author.Tests.{eq-eqb, ne_eqb}
 use mathlib.Core.Path.{sym, ◌∙◌}
 use native.Mathlib.Omega.{arith}
-use borrow.Author.Rules.{rules}
 use Rattle.trees.proofs.peek.Goals as goal
 
 pub returns-then-n-k : goal.returns-then-n-k

@@ -1,8 +1,5 @@
-use mathlib.Core.Path.{refl, sym, ◌∙◌}
-use Rattle.trees.proofs.Stack.{Running, begin, more, end}
-use Rattle.trees.specs.Machine.{env_of}
-use lib.ListN.{length}
-use Prim.Native.Nat.{◌-◌}
+use mathlib.Core.Path.{refl}
+use Rattle.trees.proofs.Stack.{begin, more, end}
 use native.Mathlib.Omega.{arith}
 use Rattle.trees.proofs.value_of.Goals as goal
 

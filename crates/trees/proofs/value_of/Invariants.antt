@@ -1,9 +1,7 @@
-use mathlib.Core.Path.{refl, sym, ◌∙◌}
-use Rattle.trees.proofs.Stack.{Running, begin, more, end}
+use Rattle.trees.proofs.Stack.{Running}
 use Rattle.trees.specs.Machine.{env_of}
 use lib.ListN.{length}
 use Prim.Native.Nat.{◌-◌}
-use native.Mathlib.Omega.{arith}
 use Rattle.trees.proofs.value_of.Given as goal
 
 abbrev pub invariant-loop-i : goal.invariant-loop-i
