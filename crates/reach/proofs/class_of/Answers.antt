@@ -1,7 +1,6 @@
 use Rattle.trees.specs.Layout.{class_of}
 use borrow.Author.Tests.{lt-ltb}
-use borrow.Author.Rules.{rules}
-use borrow.Author.Tests.{le-ltb, lt-ltb, le-leb, lt-leb, eq-eqb, ne_eqb}
+use borrow.Author.Tests.{lt-ltb}
 use Rattle.reach.proofs.class_of.Goals as goal
 
 pub returns : goal.returns

@@ -1,9 +1,6 @@
-use Rattle.reach.proofs.Warshall.{closing, close_start, close_end, matrix_own}
 use Rattle.reach.specs.Table.{Matrix, cell}
 use Rattle.reach.specs.Reach.{via}
 use Prim.Native.Nat.{◌-◌, ◌≤◌}
-use mathlib.Core.Path.{sym, ◌∙◌}
-use native.Mathlib.Omega.{arith}
 use Rattle.reach.proofs.close.Given as goal
 
 abbrev pub invariant-loop-k : goal.invariant-loop-k

@@ -1,5 +1,3 @@
-use borrow.Author.Rules.{rules}
-use borrow.Author.Tests.{le-ltb, lt-ltb, le-leb, lt-leb, eq-eqb, ne_eqb}
 use Rattle.reach.specs.Uses.{registers}
 use Rattle.reach.proofs.is_register.Goals as goal
 

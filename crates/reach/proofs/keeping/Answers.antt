@@ -1,9 +1,7 @@
-use Rattle.reach.specs.Uses.{inverts, registers, keeps}
+use Rattle.reach.specs.Uses.{keeps}
 use Rattle.trees.proofs.Runs.{within_at, run_at}
 use mathlib.Core.Path.{ap, ◌∙◌}
 use native.Mathlib.Omega.{arith}
-use borrow.Author.Rules.{rules}
-use borrow.Author.Tests.{le-ltb, lt-ltb, le-leb, lt-leb, eq-eqb, ne_eqb}
 use Rattle.reach.specs.Uses.{keeps}
 use Rattle.reach.proofs.keeping.Goals as goal
 

@@ -1,10 +1,6 @@
 use Rattle.trees.proofs.Runs.{within_at, run_at}
-use Prim.Native.Nat.{ℕ}
-use mathlib.Core.List.{List}
 use mathlib.Core.Path.{ap, ◌∙◌}
 use native.Mathlib.Omega.{arith}
-use borrow.Author.Rules.{rules}
-use borrow.Author.Tests.{le-ltb, lt-ltb, le-leb, lt-leb, eq-eqb, ne_eqb}
 use Rattle.reach.specs.Table.{marked}
 use Rattle.reach.proofs.mark_equation.Goals as goal
 

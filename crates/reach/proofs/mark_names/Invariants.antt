@@ -1,8 +1,6 @@
-use Rattle.reach.proofs.Marking.{Naming, naming_more, naming_end}
+use Rattle.reach.proofs.Marking.{Naming}
 use lib.ListN.{length}
 use Prim.Native.Nat.{◌-◌}
-use mathlib.Core.Path.{refl, sym, ◌∙◌}
-use native.Mathlib.Omega.{arith}
 use Rattle.reach.proofs.mark_names.Given as goal
 
 abbrev pub invariant-loop-k : goal.invariant-loop-k

@@ -1,9 +1,7 @@
-use Rattle.reach.specs.Uses.{inverts, registers, keeps}
+use Rattle.reach.specs.Uses.{registers}
 use Rattle.trees.proofs.Runs.{within_at, run_at}
 use mathlib.Core.Path.{ap, ◌∙◌}
 use native.Mathlib.Omega.{arith}
-use borrow.Author.Rules.{rules}
-use borrow.Author.Tests.{le-ltb, lt-ltb, le-leb, lt-leb, eq-eqb, ne_eqb}
 use Rattle.reach.specs.Uses.{registers}
 use Rattle.reach.proofs.registered.Goals as goal
 

@@ -1,6 +1,5 @@
-use Rattle.reach.proofs.Warshall.{Rounding, start, turn, finish}
+use Rattle.reach.proofs.Warshall.{Rounding}
 use Prim.Native.Nat.{◌-◌}
-use native.Mathlib.Omega.{arith}
 use Rattle.reach.proofs.round.Given as goal
 
 abbrev pub invariant-loop-p : goal.invariant-loop-p

@@ -1,6 +1,5 @@
 use Rattle.reach.proofs.Warshall.{round_none}
 use mathlib.Core.Path.{sym, ◌∙◌}
-use borrow.Author.Rules.{rules}
 use Rattle.reach.proofs.round_by.Goals as goal
 
 pub returns : goal.returns

@@ -1,5 +1,5 @@
 use borrow.Author.Tests.{le-ltb, lt-ltb, le-leb, lt-leb, eq-eqb, ne_eqb}
-use Rattle.reach.proofs.is_reg.Goals as goal
+use Rattle.circuit.proofs.is_reg.Goals as goal
 
 pub returns-then-c-eq7 : goal.returns-then-c-eq7
 returns-then-c-eq7 c = simp (eq-eqb _ _ c.if-c-eq7.true)
