@@ -1,9 +1,7 @@
 use Rattle.reach.proofs.Meeting.{meets_is}
 use Rattle.circuit.proofs.First.{first_same}
 use Rattle.reach.proofs.Warshall.{matrix_cell}
-use mathlib.Core.Path.{refl, sym, ◌∙◌}
-use borrow.Author.Rules.{rules}
-use borrow.Author.Tests.{le-ltb, lt-ltb, le-leb, lt-leb, eq-eqb, ne_eqb}
+use mathlib.Core.Path.{sym, ◌∙◌}
 use Rattle.circuit.specs.StageFive.{first_below}
 use Rattle.circuit.proofs.first_looped.Goals as goal
 

@@ -1,8 +1,5 @@
 use Rattle.circuit.proofs.First.{hit, missed}
-use Rattle.circuit.specs.StageFive.{mispositioned}
-use Rattle.trees.specs.Layout.{elements_of}
-use Rattle.basics.proofs.Folds.{None, none_start, none_more}
-use Prim.Native.Nat.{◌-◌}
+use Rattle.basics.proofs.Folds.{none_start, none_more}
 use mathlib.Core.Path.{sym, ◌∙◌}
 use native.Mathlib.Omega.{arith}
 use Rattle.circuit.proofs.first_mispositioned.Goals as goal

@@ -1,10 +1,7 @@
-use Rattle.circuit.proofs.First.{hit, missed}
 use Rattle.circuit.specs.StageFive.{mispositioned}
 use Rattle.trees.specs.Layout.{elements_of}
-use Rattle.basics.proofs.Folds.{None, none_start, none_more}
+use Rattle.basics.proofs.Folds.{None}
 use Prim.Native.Nat.{◌-◌}
-use mathlib.Core.Path.{sym, ◌∙◌}
-use native.Mathlib.Omega.{arith}
 use Rattle.circuit.proofs.first_mispositioned.Given as goal
 
 abbrev pub invariant-loop-i : goal.invariant-loop-i

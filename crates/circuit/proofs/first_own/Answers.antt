@@ -1,9 +1,6 @@
 use Rattle.circuit.proofs.First.{hit, missed}
-use Rattle.reach.specs.Table.{cell}
-use Rattle.basics.proofs.Folds.{None, none_start, none_more}
+use Rattle.basics.proofs.Folds.{none_start, none_more}
 use borrow.Author.Tests.{eq-eqb, ne_eqb}
-use Prim.Native.Nat.{◌-◌}
-use mathlib.Core.Path.{sym, ◌∙◌}
 use native.Mathlib.Omega.{arith}
 use Rattle.circuit.proofs.first_own.Goals as goal
 

@@ -1,7 +1,4 @@
-use Rattle.circuit.specs.StageFive.{stands_beside}
-use Rattle.trees.specs.Layout.{elements_of}
-use Rattle.basics.proofs.Folds.{None, none_start, none_more, none_end, any_hit}
-use Prim.Native.Nat.{◌-◌}
+use Rattle.basics.proofs.Folds.{none_start, none_more, none_end, any_hit}
 use mathlib.Core.Path.{sym, ◌∙◌}
 use native.Mathlib.Omega.{arith}
 use Rattle.circuit.proofs.is_crowded.Goals as goal

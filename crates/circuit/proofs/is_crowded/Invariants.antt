@@ -1,9 +1,7 @@
 use Rattle.circuit.specs.StageFive.{stands_beside}
 use Rattle.trees.specs.Layout.{elements_of}
-use Rattle.basics.proofs.Folds.{None, none_start, none_more, none_end, any_hit}
+use Rattle.basics.proofs.Folds.{None}
 use Prim.Native.Nat.{◌-◌}
-use mathlib.Core.Path.{sym, ◌∙◌}
-use native.Mathlib.Omega.{arith}
 use Rattle.circuit.proofs.is_crowded.Given as goal
 
 abbrev pub invariant-loop-j : goal.invariant-loop-j

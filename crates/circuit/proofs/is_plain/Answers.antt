@@ -1,8 +1,5 @@
 use Rattle.circuit.proofs.Placing.{plain_stop, plain_on_lem, plain_end}
-use Rattle.circuit.specs.Placed.{plain_n}
-use lib.ListN.{length, drop}
-use Prim.Native.Nat.{◌-◌}
-use mathlib.Core.Path.{◌≡◌, refl, sym, ◌∙◌}
+use mathlib.Core.Path.{sym, ◌∙◌}
 use native.Mathlib.Omega.{arith}
 use Rattle.circuit.proofs.is_plain.Goals as goal
 

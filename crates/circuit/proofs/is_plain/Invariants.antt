@@ -1,9 +1,7 @@
-use Rattle.circuit.proofs.Placing.{plain_stop, plain_on_lem, plain_end}
 use Rattle.circuit.specs.Placed.{plain_n}
 use lib.ListN.{length, drop}
 use Prim.Native.Nat.{◌-◌}
-use mathlib.Core.Path.{◌≡◌, refl, sym, ◌∙◌}
-use native.Mathlib.Omega.{arith}
+use mathlib.Core.Path.{◌≡◌}
 use Rattle.circuit.proofs.is_plain.Given as goal
 
 abbrev pub invariant-loop-i : goal.invariant-loop-i

@@ -1,7 +1,4 @@
-use Prim.Native.Nat.{◌+◌}
-use native.Mathlib.Omega.{arith}
-use borrow.Author.Rules.{rules}
-use borrow.Author.Tests.{le-ltb, lt-ltb, le-leb, lt-leb, eq-eqb, ne_eqb}
+use borrow.Author.Tests.{eq-eqb, ne_eqb}
 use Rattle.circuit.specs.StageFive.{positioned_right}
 use Rattle.circuit.proofs.is_positioned.Goals as goal
 

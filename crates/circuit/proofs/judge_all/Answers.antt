@@ -1,5 +1,4 @@
-use borrow.Author.Rules.{rules}
-use borrow.Author.Tests.{le-ltb, lt-ltb, le-leb, lt-leb, eq-eqb, ne_eqb}
+use borrow.Author.Tests.{le-ltb, lt-ltb, le-leb, lt-leb}
 use Rattle.circuit.specs.StageFive.{stage_five}
 use Rattle.circuit.proofs.judge_all.Goals as goal
 

@@ -1,11 +1,10 @@
 use Rattle.circuit.proofs.Placing.{no_two, stop, go_on, fin}
 use borrow.Author.Tests.{eq-eqb, ne_eqb}
-use lib.ListN.{length, drop}
-use Prim.Native.Nat.{ℕ, ◌+◌, ◌-◌, ◌≤◌}
+use lib.ListN.{length}
+use Prim.Native.Nat.{◌+◌, ◌-◌}
 use mathlib.Core.Path.{◌≡◌, refl, sym, ◌∙◌}
 use native.Mathlib.Omega.{arith}
-use borrow.Author.Tests.{le-ltb, lt-ltb, le-leb, lt-leb, eq-eqb, ne_eqb}
-use Rattle.circuit.specs.Placed.{placed_n}
+use borrow.Author.Tests.{eq-eqb, ne_eqb}
 use Rattle.circuit.proofs.well_placed.Goals as goal
 
 pub returns-then-n-lt2 : goal.returns-then-n-lt2

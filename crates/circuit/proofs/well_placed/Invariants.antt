@@ -1,10 +1,6 @@
-use Rattle.circuit.proofs.Placing.{no_two, stop, go_on, fin}
-use borrow.Author.Tests.{eq-eqb, ne_eqb}
-use lib.ListN.{length, drop}
-use Prim.Native.Nat.{ℕ, ◌+◌, ◌-◌, ◌≤◌}
-use mathlib.Core.Path.{◌≡◌, refl, sym, ◌∙◌}
-use native.Mathlib.Omega.{arith}
-use borrow.Author.Tests.{le-ltb, lt-ltb, le-leb, lt-leb, eq-eqb, ne_eqb}
+use lib.ListN.{drop}
+use Prim.Native.Nat.{◌-◌, ◌≤◌}
+use mathlib.Core.Path.{◌≡◌}
 use Rattle.circuit.specs.Placed.{placed_n}
 use Rattle.circuit.proofs.well_placed.Given as goal
 
