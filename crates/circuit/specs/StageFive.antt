@@ -1,6 +1,6 @@
 -- Stage 5: all elements in declaration order, four times, for refusals 7, 8, 9 and 10 (document 01, "Refusal numbers" and their order; decisions
 -- 24 to 26). Assumes nothing.
-use Rattle.std.specs.Prelude.{Bool, true, false, not, ◌&&◌, ◌||◌, ℕ, zero, suc, eqb, ltb}
+use Rattle.std.specs.Prelude.{Bool, false, not, ◌&&◌, ◌||◌, ℕ, zero, suc, eqb, ltb}
 use Rattle.basics.specs.Choice.{pick}
 use Rattle.basics.specs.Below.{any_below}
 use Rattle.trees.specs.Layout.{Elements}

@@ -16,7 +16,7 @@ use Rattle.trees.specs.Machine.{value_of, env_of}
 use Rattle.trees.specs.Layout.{Elements}
 use Rattle.trees.proofs.Stack.{on_bit}
 use Rattle.reach.specs.Uses.{names, replaced}
-use Rattle.meaning.specs.Meaning.{known, Solves, meaning, value}
+use Rattle.meaning.specs.Meaning.{known, Solves, meaning}
 use Rattle.meaning.specs.Settle.{settled1, settle_all, its_turn, order_of}
 use Rattle.meaning.proofs.Unique.{Ranked, exists, value_same, value_leaf}
 

@@ -11,7 +11,7 @@ use lib.Seq.{get_or_at}
 use Rattle.basics.specs.Choice.{pick}
 use Rattle.trees.specs.Tree.{Tree, flat}
 use Rattle.trees.specs.Tree.Tree.{name, low, high, neg, conj, disj, differ, mux, reg, held}
-use Rattle.reach.specs.Uses.{is_reg, from_end, inverts, registers, keeps}
+use Rattle.reach.specs.Uses.{is_reg, from_end, inverts, registers}
 
 -- REG at the top, with one part or with two
 unfoldable pub is_register : Tree → Bool

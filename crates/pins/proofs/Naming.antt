@@ -47,4 +47,4 @@ module _ (e : Elements) (d m z : List ℕ) (o : ℕ) (ho : o < 64) (ez : z ≡ r
 
 -- an entry of the row
 pub row_at : (e : Elements) (row : List ℕ) (o j : ℕ) → row ≡ listed (λ j. bit (mentions e o j)) 64 → j < 64 → on (get_or row j 0) ≡ mentions e o j
-row_at e row o j q h = ap (λ (l : List ℕ). on (get_or l j 0)) q ∙ ap on (listed_at (λ j. bit (mentions e o j)) 64 j h) ∙ on_bit (mentions e o j)
+row_at e _ o j q h = ap (λ (l : List ℕ). on (get_or l j 0)) q ∙ ap on (listed_at (λ j. bit (mentions e o j)) 64 j h) ∙ on_bit (mentions e o j)

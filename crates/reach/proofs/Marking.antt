@@ -1,17 +1,16 @@
 -- Which element names which, in a table.
 -- Assumes nothing.
 use mathlib.Core.Path.{◌≡◌, refl, sym, ap, ap₂, ◌∙◌, subst}
-use mathlib.Core.Logic.{◌⊎◌, inl, inr, ⊎_elim}
-use mathlib.Core.Bool.{Bool, true, false, not, ◌&&◌, ◌||◌}
+use mathlib.Core.Bool.{Bool, true, false, ◌&&◌, ◌||◌}
 use mathlib.Core.List.{List, [], ◌∷◌}
-use Prim.Native.Nat.{ℕ, zero, suc, ◌+◌, ◌-◌, ◌*◌, ◌/◌, ◌%◌, ◌≤◌, ◌<◌}
+use Prim.Native.Nat.{ℕ, suc, ◌+◌, ◌-◌, ◌*◌, ◌/◌, ◌%◌, ◌≤◌, ◌<◌}
 use native.Mathlib.Numerals.{add-one}
 use native.Mathlib.Omega.{arith}
-use lib.Dec.{T, eqb, ltb, leb}
+use lib.Dec.{eqb, ltb}
 use borrow.Author.Tests.{eq-eqb, ne_eqb, lt-ltb, le-ltb, ltb-true, ltb-false, eqb-true, eqb-false}
-use lib.ListN.{length, get_or, set, length-set, take, drop, drop_of_length-le, replicate, get_or-replicate, length-replicate}
+use lib.ListN.{length, get_or, set, length-set, drop, drop_of_length-le, replicate}
 use lib.Seq.{get_or-set_same, get_or-set_other, drop-cons}
-use Rattle.basics.specs.Choice.{bit, pick, on}
+use Rattle.basics.specs.Choice.{bit, pick}
 use Rattle.basics.proofs.Truth.{or_true}
 use Rattle.trees.specs.Layout.{Elements}
 use Rattle.reach.specs.Table.{Matrix, mark1, marked}

@@ -1,13 +1,13 @@
 -- Meeting is what Warshall's 64 rounds find, and what paths say. Assumes nothing.
-use mathlib.Core.Path.{◌≡◌, refl, sym, ap, ap₂, ◌∙◌, subst}
-use mathlib.Core.Logic.{◌⊎◌, inl, inr, ⊎_elim}
+use mathlib.Core.Path.{◌≡◌, refl, sym, ap, ◌∙◌, subst}
+use mathlib.Core.Logic.{⊎_elim}
 use mathlib.Core.Bool.{Bool, true, false, ◌&&◌, ◌||◌}
 use Prim.Native.Nat.{ℕ, zero, suc, ◌+◌, ◌-◌, ◌≤◌, ◌<◌}
 use native.Mathlib.Nat.{eq-or-lt_of_le, le_of_suc-le-suc}
 use native.Mathlib.Omega.{arith}
 use lib.Dec.{T, ltb, ltb→lt}
 use Rattle.basics.specs.Choice.{pick}
-use Rattle.basics.proofs.Truth.{and_l, and_r, and_false, of_true, clash}
+use Rattle.basics.proofs.Truth.{and_l, and_r, and_false, of_true}
 use Rattle.trees.specs.Layout.{Elements}
 use Rattle.reach.specs.Uses.{replaced, uses, writes, names}
 use Rattle.reach.specs.Reach.{Meets, via}

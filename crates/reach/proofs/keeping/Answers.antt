@@ -1,0 +1,21 @@
+use Rattle.reach.specs.Uses.{keeps}
+use Rattle.trees.proofs.Runs.{within_at, run_at}
+use mathlib.Core.Path.{ap, ◌∙◌}
+use native.Mathlib.Omega.{arith}
+use Rattle.reach.specs.Uses.{keeps}
+use Rattle.reach.proofs.keeping.Goals as goal
+
+pub returns : goal.returns
+returns c = c.is_keeping.ensures ∙ ap keeps (run_at _ _ _ _ c.first_of-first.ensures c.end_of-end.ensures)
+
+pub offset_bounds-parts-first : goal.offset_bounds-parts-first
+offset_bounds-parts-first c = let w = within_at _ _ _ _ c.first_of-first.ensures c.end_of-end.ensures in let a = w.rising in let b = w.few in omega arith
+
+pub slice_bounds-is_keeping-count : goal.slice_bounds-is_keeping-count
+slice_bounds-is_keeping-count c = (within_at _ _ _ _ c.first_of-first.ensures c.end_of-end.ensures).rising
+
+pub slice_bounds-is_keeping-start : goal.slice_bounds-is_keeping-start
+slice_bounds-is_keeping-start c = let w = within_at _ _ _ _ c.first_of-first.ensures c.end_of-end.ensures in let a = w.rising in let b = w.inside in omega arith
+
+pub slice_bounds-is_keeping-end : goal.slice_bounds-is_keeping-end
+slice_bounds-is_keeping-end c = let w = within_at _ _ _ _ c.first_of-first.ensures c.end_of-end.ensures in let a = w.rising in let b = w.inside in omega arith
