@@ -1,6 +1,6 @@
 -- What a fit line counts (document 01, "The fuse file", on the fit program; decision 31), by the rows that were emitted.
 -- Assumes nothing.
-use Rattle.std.specs.Prelude.{Bool, not, List, [], ◌∷◌, ℕ, zero, suc, ◌+◌, ◌%◌}
+use Rattle.std.specs.Prelude.{not, List, [], ◌∷◌, ℕ, zero, suc, ◌+◌, ◌%◌}
 use Rattle.std.specs.Int.Count.{ones}
 use Rattle.basics.specs.Choice.{pick}
 use Rattle.basics.specs.Below.{tally}

@@ -1,7 +1,7 @@
 -- The map of ten fitted cells (document 01, "From equation to rows", on the device's rows). Arrays stand by cell, that of pin 23 first: the
 -- masks of each cell's products in their order, how many they are, the cell's kind (0 unused, 1 combinational, 2 registered) and its S0.
 -- Assumes nothing.
-use Rattle.std.specs.Prelude.{◌≡◌, Bool, true, false, not, ◌||◌, List, [], ◌∷◌, ℕ, ◌+◌, ◌-◌, ◌*◌, ◌/◌, ◌%◌, ◌<◌, eqb, leb, ltb, length, get_or, replicate}
+use Rattle.std.specs.Prelude.{◌≡◌, Bool, not, ◌||◌, List, [], ℕ, ◌+◌, ◌-◌, ◌*◌, ◌/◌, ◌%◌, ◌<◌, eqb, leb, ltb, length, get_or, replicate}
 use Rattle.basics.specs.Choice.{bit, on, pick}
 use Rattle.basics.specs.Below.{tally, listed}
 use Rattle.device.specs.Device.{enable_of}

@@ -1,16 +1,16 @@
 -- The twos of a judged table, in order, are the primes over all columns, in order.
 -- Assumes nothing.
-use mathlib.Core.Path.{◌≡◌, refl, sym, ap, ap₂, ◌∙◌, subst, fun_ext}
+use mathlib.Core.Path.{◌≡◌, refl, sym, ap, ap₂, ◌∙◌, fun_ext}
 use mathlib.Core.Bool.{Bool, true, false, not, ◌&&◌}
 use mathlib.Core.List.{List, [], ◌∷◌, ◌++◌, map, append_assoc}
-use Prim.Native.Nat.{ℕ, zero, suc, ◌+◌, ◌*◌, ◌/◌, ◌%◌, ◌^◌, ◌≤◌, ◌<◌}
+use Prim.Native.Nat.{ℕ, zero, suc, ◌+◌, ◌*◌, ◌/◌, ◌%◌, ◌^◌, ◌<◌}
 use native.Mathlib.Nat.{pow-suc}
 use native.Mathlib.Omega.{arith}
 use lib.Dec.{eqb, leb}
 use lib.ListN.{length, get_or, replicate, length-map}
 use Rattle.basics.specs.Choice.{pick}
 use Rattle.sums.specs.Product.{Digit, imp, any, drops, prime, grade, verdict, filter, expand, products, primes, digit, digits}
-use Rattle.sums.specs.Product.Digit.{off, on, absent}
+use Rattle.sums.specs.Product.Digit.{absent}
 use Rattle.sums.specs.Named.{keep, spread, count}
 use Rattle.sums.proofs.Named.{primes_named, filter_map}
 use Rattle.engine.specs.Table.{function, Judged}

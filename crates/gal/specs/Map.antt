@@ -1,6 +1,6 @@
 -- A map and its cells (document 01, "The device"). Cells are counted from 0, pin 23 first; column pairs from 0, pin 1 first.
 -- Assumes nothing.
-use Rattle.std.specs.Prelude.{Bool, true, false, not, ◌&&◌, ◌||◌, List, ℕ, ◌+◌, ◌-◌, ◌*◌, eqb, ltb, get_or}
+use Rattle.std.specs.Prelude.{Bool, not, ◌&&◌, List, ℕ, ◌+◌, ◌-◌, ◌*◌, eqb, ltb, get_or}
 use Rattle.basics.specs.Choice.{bit, on, pick}
 use Rattle.basics.specs.Below.{any_below, all_below, listed}
 use Rattle.device.specs.Device.{enable_of, products_of, column_of}

@@ -1,7 +1,7 @@
 -- The model (document 01, "The device"): a map, ten register bits and twenty-four pin values to a refusal, or to the pins shown, their values and the
 -- registers after the clock; and the model run from power_up.
 -- Assumes nothing.
-use Rattle.std.specs.Prelude.{Bool, List, [], ◌∷◌, ℕ, replicate}
+use Rattle.std.specs.Prelude.{List, [], ◌∷◌, ℕ, replicate}
 use Rattle.basics.specs.Choice.{pick}
 use Rattle.gal.specs.Map.{signals}
 use Rattle.gal.specs.Refuse.{no_map, outside, no_values}

@@ -1,6 +1,6 @@
 -- What the model refuses (document 01, "The device" and "Refusal numbers": 31, 30, 32; decision 40).
 -- Assumes nothing.
-use Rattle.std.specs.Prelude.{Bool, true, false, not, ◌&&◌, ◌||◌, List, ℕ, ◌+◌, ◌-◌, ◌*◌, eqb, ltb, length, get_or}
+use Rattle.std.specs.Prelude.{Bool, not, ◌&&◌, ◌||◌, List, ℕ, ◌+◌, ◌-◌, ◌*◌, eqb, ltb, length, get_or}
 use Rattle.basics.specs.Choice.{bit, on}
 use Rattle.basics.specs.Below.{any_below, listed}
 use Rattle.device.specs.Device.{enable_of, products_of, column_of}

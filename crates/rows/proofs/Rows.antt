@@ -1,21 +1,20 @@
 -- When the rows are true: open always, dead never, a product's row where the setting of the signals has what is picked, a feedback row where the pin
 -- shows the value wanted.
 -- Assumes nothing.
-use mathlib.Core.Path.{◌≡◌, refl, sym, ap, ap₂, ◌∙◌, subst}
+use mathlib.Core.Path.{◌≡◌, refl, sym, ap, ap₂, ◌∙◌}
 use mathlib.Core.Bool.{Bool, true, false, not, ◌&&◌, ◌||◌}
 use mathlib.Core.List.{List, [], ◌∷◌, ◌++◌, append-nil}
-use mathlib.Core.Logic.{◌⊎◌, inl, inr, ⊎_elim}
-use Prim.Native.Nat.{ℕ, zero, suc, ◌+◌, ◌-◌, ◌*◌, ◌/◌, ◌%◌, ◌≤◌, ◌<◌}
+use mathlib.Core.Logic.{⊎_elim}
+use Prim.Native.Nat.{ℕ, zero, suc, ◌+◌, ◌-◌, ◌*◌, ◌/◌, ◌%◌, ◌<◌}
 use native.Mathlib.Nat.{eq-or-lt_of_le, le_of_suc-le-suc}
 use native.Mathlib.Omega.{arith}
 use borrow.Author.Tests.{eq-eqb, ne_eqb}
-use lib.Dec.{T, eqb}
 use lib.ListN.{length, get_or}
-use Rattle.basics.specs.Choice.{bit, on, pick, xor}
+use Rattle.basics.specs.Choice.{bit, on, xor}
 use Rattle.basics.specs.Below.{any_below, all_below, listed}
 use Rattle.basics.proofs.Truth.{and_false, and_true, clash, of_true, true_of, or_cases}
-use Rattle.basics.proofs.Folds.{all_miss, any_hit, all_same, listed_at}
-use Rattle.rows.specs.Row.{joins, pair_true, true_row, dead_row, plain_fuse, inverse_fuse, pairs_from, product_row, feedback, feedback_fuse, feedback_row}
+use Rattle.basics.proofs.Folds.{any_hit, all_same, listed_at}
+use Rattle.rows.specs.Row.{joins, pair_true, true_row, dead_row, plain_fuse, inverse_fuse, pairs_from, product_row, feedback_fuse, feedback_row}
 use Rattle.rows.specs.Setting.{setting_from, setting_of}
 
 -- ---- open and dead rows

@@ -1,7 +1,7 @@
 -- Rows of 44 fuses (document 01, "The device" and "From equation to rows"). A row is given by the fuse at each of its columns;
 -- pair p has the plain column 2p and the inverse column 2p + 1. Signals of the pairs stand in a list, pair 0 first.
 -- Assumes nothing.
-use Rattle.std.specs.Prelude.{Bool, true, false, not, ◌&&◌, ◌||◌, List, [], ◌∷◌, ℕ, zero, suc, ◌+◌, ◌-◌, ◌*◌, ◌/◌, ◌%◌, eqb, get_or}
+use Rattle.std.specs.Prelude.{Bool, not, ◌&&◌, ◌||◌, List, [], ◌∷◌, ℕ, zero, suc, ◌+◌, ◌*◌, ◌/◌, ◌%◌, eqb, get_or}
 use Rattle.basics.specs.Choice.{bit, on, pick, xor}
 use Rattle.basics.specs.Below.{any_below, all_below, listed}
 

@@ -60,17 +60,17 @@ keep_drops [] [] h e = refl
 keep_drops [] (d ∷ p) h e = absurd (omega arith)
 keep_drops (b ∷ m) [] h e = absurd (omega arith)
 keep_drops (true ∷ m) (off ∷ p) h e =
-    rw (any_map, any_map h, keep_drops m p (λ q. h (off ∷ q)) (omega arith))
+    rw (any_map (λ q. h (keep (true ∷ m) q)) (λ q. off ∷ q) (drops p), any_map h (λ q. off ∷ q) (drops (keep m p)), keep_drops m p (λ q. h (off ∷ q)) (omega arith))
     (swap (h (absent ∷ keep m p)) (not (clean m p) && h (off ∷ keep m p)) (any (λ q. h (off ∷ q)) (drops (keep m p))))
 keep_drops (true ∷ m) (on ∷ p) h e =
-    rw (any_map, any_map h, keep_drops m p (λ q. h (on ∷ q)) (omega arith))
+    rw (any_map (λ q. h (keep (true ∷ m) q)) (λ q. on ∷ q) (drops p), any_map h (λ q. on ∷ q) (drops (keep m p)), keep_drops m p (λ q. h (on ∷ q)) (omega arith))
     (swap (h (absent ∷ keep m p)) (not (clean m p) && h (on ∷ keep m p)) (any (λ q. h (on ∷ q)) (drops (keep m p))))
-keep_drops (true ∷ m) (absent ∷ p) h e = rw (any_map, any_map h, keep_drops m p (λ q. h (absent ∷ q)) (omega arith))
+keep_drops (true ∷ m) (absent ∷ p) h e = rw (any_map (λ q. h (keep (true ∷ m) q)) (λ q. absent ∷ q) (drops p), any_map h (λ q. absent ∷ q) (drops (keep m p)), keep_drops m p (λ q. h (absent ∷ q)) (omega arith))
 keep_drops (false ∷ m) (off ∷ p) h e =
-    rw (any_map, keep_drops m p h (omega arith)) (absorb (h (keep m p)) (not (clean m p)) (any h (drops (keep m p))))
+    rw (any_map (λ q. h (keep (false ∷ m) q)) (λ q. off ∷ q) (drops p), keep_drops m p h (omega arith)) (absorb (h (keep m p)) (not (clean m p)) (any h (drops (keep m p))))
 keep_drops (false ∷ m) (on ∷ p) h e =
-    rw (any_map, keep_drops m p h (omega arith)) (absorb (h (keep m p)) (not (clean m p)) (any h (drops (keep m p))))
-keep_drops (false ∷ m) (absent ∷ p) h e = rw (any_map, keep_drops m p h (omega arith))
+    rw (any_map (λ q. h (keep (false ∷ m) q)) (λ q. on ∷ q) (drops p), keep_drops m p h (omega arith)) (absorb (h (keep m p)) (not (clean m p)) (any h (drops (keep m p))))
+keep_drops (false ∷ m) (absent ∷ p) h e = rw (any_map (λ q. h (keep (false ∷ m) q)) (λ q. absent ∷ q) (drops p), keep_drops m p h (omega arith))
 
 regroup : (c i a : Bool) → (i && not (not c && i || a)) ≡ (c && (i && not a))
 regroup true true a = refl

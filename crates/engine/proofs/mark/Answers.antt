@@ -1,0 +1,29 @@
+-- `engine::mark` meets its contract: each turn stores one entry more.
+use native.Mathlib.Omega.{arith}
+use lib.ListN.{length-set}
+use Rattle.engine.proofs.Marking.{begin, more, finish}
+use Rattle.engine.proofs.mark.Goals as goal
+
+pub loop-p-init : goal.loop-p-init
+loop-p-init c = begin _ _ c.requires
+
+pub graded-v-requires : goal.graded-v-requires
+graded-v-requires c = let i = c.loop-p.invariant in record {
+  room = i.room;
+  p_bound = omega arith;
+}
+
+pub loop-p-smaller : goal.loop-p-smaller
+loop-p-smaller c = simp length-set (omega arith)
+
+pub loop-p-preserved : goal.loop-p-preserved
+loop-p-preserved c = more _ _ _ _ _ c.loop-p.invariant (omega arith) c.graded-v.ensures
+
+pub shape_of-t : goal.shape_of-t
+shape_of-t c = c.loop-p.invariant.same
+
+pub returns : goal.returns
+returns c = let i = c.loop-p.invariant in record {
+  room = i.room;
+  graded = finish _ _ _ _ i c.loop-p-test.false;
+}
