@@ -2,7 +2,7 @@ use Rattle.tables.specs.Answered.{seen}
 use lib.ListN.{length}
 use lib.Seq.{length-take-le}
 use Rattle.engine.proofs.Walk.{few_two}
-use Rattle.outputs.proofs.Trying.{not_table, count_of_lem, few, table_part}
+use Rattle.outputs.proofs.Trying.{not_table, table_count, few, table_part}
 use Rattle.question.proofs.Asking.{question_is, impossible}
 use Rattle.trees.specs.Layout.{elements_of}
 use native.Mathlib.Omega.{arith}
@@ -43,7 +43,7 @@ slice-aggregate-ask-table c = sym (length-take-le _ _ (let n = few (elements_of 
 
 -- src/lib.rt:53:13
 ask-table-requires : tie.Need-ask-table-requires
-ask-table-requires c κs = (count_of_lem (elements_of c.before.before.before.before.before.before.before.before.before.before.before.args.parts.now) false c.before.before.before.before.before.before.before.before.before.before.before.args.o _ _ (ap seen (sym c.before.before.before.before.count.given.1) ∙ c.before.before.before.before.before.before.before.question-table.ensures.0), (few (elements_of c.before.before.before.before.before.before.before.before.before.before.before.args.parts.now) false c.before.before.before.before.before.before.before.before.before.before.before.args.o _ _ (ap seen (sym c.before.before.before.before.count.given.1) ∙ c.before.before.before.before.before.before.before.question-table.ensures.0), (table_part (elements_of c.before.before.before.before.before.before.before.before.before.before.before.args.parts.now) false c.before.before.before.before.before.before.before.before.before.before.before.args.o _ _ (ap seen (sym c.before.before.before.before.count.given.1) ∙ c.before.before.before.before.before.before.before.question-table.ensures.0) _ _ c.before.before.before.before.before.before.before.question-table.ensures.1 _ c.before.before.power.ensures ∙ question_is _ _, (c.before.before.before.before.before.before.before.before.before.before.before.requires.1.1.1.0, c.before.before.before.before.before.before.before.before.before.before.before.requires.1.1.1.1))))
+ask-table-requires c κs = (table_count (elements_of c.before.before.before.before.before.before.before.before.before.before.before.args.parts.now) false c.before.before.before.before.before.before.before.before.before.before.before.args.o _ _ (ap seen (sym c.before.before.before.before.count.given.1) ∙ c.before.before.before.before.before.before.before.question-table.ensures.0), (few (elements_of c.before.before.before.before.before.before.before.before.before.before.before.args.parts.now) false c.before.before.before.before.before.before.before.before.before.before.before.args.o _ _ (ap seen (sym c.before.before.before.before.count.given.1) ∙ c.before.before.before.before.before.before.before.question-table.ensures.0), (table_part (elements_of c.before.before.before.before.before.before.before.before.before.before.before.args.parts.now) false c.before.before.before.before.before.before.before.before.before.before.before.args.o _ _ (ap seen (sym c.before.before.before.before.count.given.1) ∙ c.before.before.before.before.before.before.before.question-table.ensures.0) _ _ c.before.before.before.before.before.before.before.question-table.ensures.1 _ c.before.before.power.ensures ∙ question_is _ _, (c.before.before.before.before.before.before.before.before.before.before.before.requires.1.1.1.0, c.before.before.before.before.before.before.before.before.before.before.before.requires.1.1.1.1))))
 
 -- src/lib.rt:55:35
 enum-known-place : tie.Need-enum-known-place
