@@ -1,7 +1,6 @@
 -- `fit_tables::pow2` meets its contract: the table's rule is one test at each entry, which is computed.
--- Assumes nothing.
 use mathlib.Core.Path.{◌≡◌, refl}
-use mathlib.Core.Bool.{Bool, true}
+use mathlib.Core.Bool.{true}
 use mathlib.Core.List.{List, [], ◌∷◌}
 use Prim.Native.Nat.{ℕ, ◌^◌}
 use lib.Dec.{eqb, eqb→eq}
@@ -10,11 +9,10 @@ use Rattle.basics.specs.Below.{all_below}
 use Rattle.basics.proofs.Folds.{all_at}
 use Rattle.basics.proofs.Truth.{of_true}
 use borrow.Author.Rules.{rules}
-use Rattle.fit_tables.proofs.pow2.Statement.{statement}
-use Rattle.fit_tables.proofs.pow2.Tie as tie
-use Rattle.fit_tables.proofs.pow2.Reads as reads
-use Rattle.fit_tables.proofs.pow2.Lts as lts
+use Rattle.fit_tables.proofs.pow2.Goals as goal
 
+-- `fit_tables::pow2` meets its contract: the table's rule is one test at each entry, which is computed.
+-- Assumes nothing.
 entries : List ℕ
 entries = 1 ∷ 2 ∷ 4 ∷ 8 ∷ 16 ∷ 32 ∷ 64 ∷ 128 ∷ 256 ∷ 512 ∷ 1024 ∷ []
 
@@ -22,18 +20,6 @@ right : all_below (λ k. eqb (get_or entries k 0) (2 ^ k)) 11 ≡ true
 unfolding all_below entries
 right = refl
 
--- src/lib.rt:87:5
-mul-result : tie.Need-overflow-mul-result
-mul-result c = search rules
-
--- src/lib.rt:87:5
-array-read-result : tie.Need-array-read-result
-array-read-result c = search rules
-
--- src/lib.rt:83:1
-returns : tie.Need-returns
+pub returns : goal.returns
 unfolding entries
 returns c = eqb→eq (get_or entries c.args.n 0) (2 ^ c.args.n) (of_true _ (all_at (λ k. eqb (get_or entries k 0) (2 ^ k)) 11 right c.args.n (search rules)))
-
-pub pow2-spec : {M : Type 1} → statement M
-pow2-spec = tie.close (tie.spec mul-result array-read-result returns)
