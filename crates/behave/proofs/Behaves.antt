@@ -11,7 +11,6 @@ use Rattle.basics.specs.Choice.{bit, on, pick, xor}
 use Rattle.basics.proofs.Folds.{listed_same, listed_length}
 use Rattle.basics.proofs.Truth.{and_l, and_r, of_true}
 use Rattle.cover.specs.Sum.{over}
-use Rattle.fit.specs.Fit.{opposite}
 use Rattle.device.specs.Device.{column_of}
 use Rattle.rows.specs.Setting.{setting_of}
 use Rattle.gal.specs.Map.{registered, enabled, is_cell, signal, signals, total}

@@ -19,7 +19,7 @@ use Rattle.basics.proofs.Truth.{of_true}
 use Rattle.sums.specs.Product.{Digit, factors}
 use Rattle.sums.specs.Product.Digit.{off, on, absent}
 use Rattle.sums.specs.Order.{columns, before, Rising}
-use Rattle.sums.specs.Order.Rising.{one, more}
+use Rattle.sums.specs.Order.Rising.{more}
 use Rattle.cover.specs.Mask.{mask}
 use Rattle.cover.specs.Sum.{over, padded}
 use Rattle.cover.proofs.Canon.{ones_mask}
