@@ -106,16 +106,16 @@ module _ (e : Elements) (rows : Bool) (o : ℕ) where
   unfolding tabled
   whole n m q = q ∙ ap (λ (b : Bool). pick b (table (count_of e rows o) (mask_of e rows o)) (many (e.place o))) (in_table n m q)
 
-  pub count_of_lem : (n m : ℕ) → table n m ≡ tabled e rows o → n ≡ count_of e rows o
+  pub table_count : (n m : ℕ) → table n m ≡ tabled e rows o → n ≡ count_of e rows o
   unfolding count_in
-  count_of_lem n m q = ap count_in (whole n m q)
+  table_count n m q = ap count_in (whole n m q)
 
-  pub mask_of_lem : (n m : ℕ) → table n m ≡ tabled e rows o → m ≡ mask_of e rows o
+  pub table_mask : (n m : ℕ) → table n m ≡ tabled e rows o → m ≡ mask_of e rows o
   unfolding mask_in
-  mask_of_lem n m q = ap mask_in (whole n m q)
+  table_mask n m q = ap mask_in (whole n m q)
 
   pub few : (n m : ℕ) → table n m ≡ tabled e rows o → n < 11
-  few n m q = let a = leb-true (count_of e rows o) 10 (in_table n m q) in let b = count_of_lem n m q in omega (arith, a, b)
+  few n m q = let a = leb-true (count_of e rows o) 10 (in_table n m q) in let b = table_count n m q in omega (arith, a, b)
 
   -- the part of the lent bytes that is the table
   pub table_part : (n m : ℕ) → table n m ≡ tabled e rows o → (t t₀ : List ℕ) → t ≡ table_in e rows o t₀ → (size : ℕ) → size ≡ 2 ^ n
@@ -123,7 +123,7 @@ module _ (e : Elements) (rows : Bool) (o : ℕ) where
   unfolding table_in
   table_part n m q t t₀ w size s =
       let l = listed (λ k. bit (entry_of e rows o k)) (2 ^ count_of e rows o) in
-      ap₂ take (s ∙ ap (λ (j : ℕ). 2 ^ j) (count_of_lem n m q)) (w ∙ ap (λ (b : Bool). pick b (l ++ drop (2 ^ count_of e rows o) t₀) t₀) (in_table n m q))
+      ap₂ take (s ∙ ap (λ (j : ℕ). 2 ^ j) (table_count n m q)) (w ∙ ap (λ (b : Bool). pick b (l ++ drop (2 ^ count_of e rows o) t₀) t₀) (in_table n m q))
       ∙ take_at l (drop (2 ^ count_of e rows o) t₀) (2 ^ count_of e rows o) (listed_length (λ k. bit (entry_of e rows o k)) (2 ^ count_of e rows o))
 
 pub table_length : (e : Elements) (o n : ℕ) (f : List ℕ) → n ≡ count_of e true o → f ≡ table_of e o → length f ≡ 2 ^ n

@@ -5,12 +5,6 @@ use mathlib.Core.Path.{sym, ◌∙◌}
 use Rattle.circuit.specs.StageFive.{first_below}
 use Rattle.circuit.proofs.first_looped.Goals as goal
 
-pub slice_bounds-first_own-end : goal.slice_bounds-first_own-end
-slice_bounds-first_own-end c = sym c.reach.ensures.size
-
-pub first_own-requires : goal.first_own-requires
-first_own-requires c = c.reach.ensures.size
-
 pub returns : goal.returns
 unfolding first_below
 returns c = c.first_own.ensures ∙ first_same _ _ 64 (λ k h. matrix_cell _ _ c.reach.ensures k k h h ∙ sym (meets_is _ k k))

@@ -1,20 +1,13 @@
 use Rattle.circuit.proofs.First.{hit, missed}
 use Rattle.basics.proofs.Folds.{none_start, none_more}
 use mathlib.Core.Path.{sym, ◌∙◌}
-use native.Mathlib.Omega.{arith}
 use Rattle.circuit.proofs.first_misassigned.Goals as goal
 
 pub loop-i-init : goal.loop-i-init
 loop-i-init c = none_start _ _
 
-pub is_misassigned-requires : goal.is_misassigned-requires
-is_misassigned-requires c = c.loop-i-test.true
-
 pub returns-then-is_misassigned : goal.returns-then-is_misassigned
 returns-then-is_misassigned c = hit _ _ _ c.loop-i-test.true c.loop-i.invariant (sym c.is_misassigned.ensures ∙ c.if-is_misassigned.true)
-
-pub loop-i-smaller : goal.loop-i-smaller
-loop-i-smaller c = let l = c.loop-i-test.true in omega arith
 
 pub loop-i-preserved : goal.loop-i-preserved
 loop-i-preserved c = none_more _ _ _ c.loop-i-test.true c.loop-i.invariant (sym c.is_misassigned.ensures ∙ c.if-is_misassigned.false)

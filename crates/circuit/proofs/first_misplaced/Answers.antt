@@ -1,20 +1,13 @@
 use Rattle.circuit.proofs.First.{hit, missed}
 use Rattle.basics.proofs.Folds.{none_start, none_more}
 use mathlib.Core.Path.{sym, ◌∙◌}
-use native.Mathlib.Omega.{arith}
 use Rattle.circuit.proofs.first_misplaced.Goals as goal
 
 pub loop-i-init : goal.loop-i-init
 loop-i-init c = none_start _ _
 
-pub is_misplaced-requires : goal.is_misplaced-requires
-is_misplaced-requires c = c.loop-i-test.true
-
 pub returns-then-is_misplaced : goal.returns-then-is_misplaced
 returns-then-is_misplaced c = hit _ _ _ c.loop-i-test.true c.loop-i.invariant (sym c.is_misplaced.ensures ∙ c.if-is_misplaced.true)
-
-pub loop-i-smaller : goal.loop-i-smaller
-loop-i-smaller c = let l = c.loop-i-test.true in omega arith
 
 pub loop-i-preserved : goal.loop-i-preserved
 loop-i-preserved c = none_more _ _ _ c.loop-i-test.true c.loop-i.invariant (sym c.is_misplaced.ensures ∙ c.if-is_misplaced.false)

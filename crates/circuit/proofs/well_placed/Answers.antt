@@ -2,16 +2,13 @@ use Rattle.circuit.proofs.Placing.{no_two, stop, go_on, fin}
 use borrow.Author.Tests.{eq-eqb, ne_eqb}
 use lib.ListN.{length}
 use Prim.Native.Nat.{◌+◌, ◌-◌}
-use mathlib.Core.Path.{◌≡◌, refl, sym, ◌∙◌}
+use mathlib.Core.Path.{◌≡◌, sym, ◌∙◌}
 use native.Mathlib.Omega.{arith}
 use borrow.Author.Tests.{eq-eqb, ne_eqb}
 use Rattle.circuit.proofs.well_placed.Goals as goal
 
 pub returns-then-n-lt2 : goal.returns-then-n-lt2
 returns-then-n-lt2 c = sym (no_two c.args.nodes.now c.if-n-lt2.true)
-
-pub loop-i-init : goal.loop-i-init
-loop-i-init c = (omega arith, refl)
 
 pub returns-then-is_reg : goal.returns-then-is_reg
 returns-then-is_reg c = stop _ _ (omega (arith, c.loop-i-test.true)) c.loop-i.invariant.1 (sym c.is_reg.ensures ∙ c.if-is_reg.true)
