@@ -298,7 +298,7 @@ fn read_header(
 }
 
 // One round of a FOR: it is counted first.
-#[cycle(round_run_for_run_loop_statement_turn_statements_turns)]
+#[cycle(unrolling)]
 fn round(
     text: &[u8],
     names: &[u16],
@@ -327,7 +327,7 @@ fn round(
 }
 
 // Rounds of a FOR, so many from a value on.
-#[cycle(round_run_for_run_loop_statement_turn_statements_turns)]
+#[cycle(unrolling)]
 fn turns(
     text: &[u8],
     names: &[u16],
@@ -379,7 +379,7 @@ fn turns(
 }
 
 // A FOR from its body on.
-#[cycle(round_run_for_run_loop_statement_turn_statements_turns)]
+#[cycle(unrolling)]
 fn run_loop(
     text: &[u8],
     names: &[u16],
@@ -419,7 +419,7 @@ fn run_loop(
 }
 
 // Behind a FOR: one level fewer is left within it.
-#[cycle(round_run_for_run_loop_statement_turn_statements_turns)]
+#[cycle(unrolling)]
 fn run_for(
     text: &[u8],
     names: &[u16],
@@ -472,7 +472,7 @@ fn run_for(
 }
 
 // One statement.
-#[cycle(round_run_for_run_loop_statement_turn_statements_turns)]
+#[cycle(unrolling)]
 fn statement_turn(
     text: &[u8],
     names: &[u16],
@@ -556,7 +556,7 @@ fn statement_turn(
 }
 
 // The statements at a place, among the names that stand there, with levels of nesting left.
-#[cycle(round_run_for_run_loop_statement_turn_statements_turns)]
+#[cycle(unrolling)]
 pub fn statements(
     text: &[u8],
     names: &[u16],
