@@ -1,7 +1,6 @@
 -- Worked examples of stage 2, computed (decisions 7 to 13).
 -- Assumes nothing.
 use mathlib.Core.Path.{◌≡◌, refl}
-use mathlib.Core.List.{[]}
 use Prim.Native.Nat.{ℕ}
 use Rattle.basics.specs.Text.{text}
 use Rattle.words.specs.Bytes.{is_blank, is_letter, is_digit, is_single, is_pair, turn_of}

@@ -15,7 +15,7 @@ use lib.IntN.{ℤ, pos, negsuc}
 use borrow.Author.Tests.{eqb-true, ne_eqb}
 use Rattle.basics.specs.Choice.{pick}
 use Rattle.integers.specs.Integers.{Answer, held as kept-number, broken, combined}
-use Rattle.trees.specs.Tree.{Tree, name, low, high, neg, conj, disj, differ, mux, reg, held, flat}
+use Rattle.trees.specs.Tree.{Tree, low, high, neg, conj, disj, differ, mux, reg, held, flat}
 use Rattle.grammar.specs.Outcome.{ok, Built, built, bad, and_built, built_at}
 use Rattle.grammar.specs.Grammar.{index_sort, part_sort, expression, nested}
 use Rattle.grammar.specs.Trees.{literal, logic, plain, element, invert, apply, choose, hold, keep, eval, parsed}

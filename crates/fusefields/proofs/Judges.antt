@@ -1,22 +1,21 @@
 -- The outcomes of each field's judgement, in the words of the tests that lead to them. Assumes nothing.
 use mathlib.Core.Path.{◌≡◌, refl, sym, ap, ap₂, subst, ◌∙◌}
 use mathlib.Core.List.{List, [], ◌∷◌}
-use mathlib.Core.Bool.{Bool, true, false, not}
-use Prim.Native.Nat.{ℕ, zero, suc, ◌+◌, ◌-◌, ◌≤◌, ◌<◌, min}
+use mathlib.Core.Bool.{Bool, true, false}
+use Prim.Native.Nat.{ℕ, suc, ◌+◌, ◌-◌, ◌≤◌, ◌<◌, min}
 use native.Mathlib.Omega.{arith}
 use native.Mathlib.Decide.{dec_le}
 use lib.ListN.{length, take, drop, get_or}
 use lib.Seq.{take_all}
-use lib.Dec.{leb, eqb}
+use lib.Dec.{eqb}
 use borrow.Author.Tests.{le-leb, lt-leb, eq-eqb, ne_eqb, eqb-true}
 use Rattle.basics.specs.Choice.{pick}
 use Rattle.fusetext.specs.Put.{Wrote}
 use Rattle.fusetext.proofs.Files.{pick_both}
 use Rattle.fusefields.specs.Bytes.{blank, digit, fuse, fuse_or_blank, front, past, value, fuses}
-use Rattle.fusefields.specs.Fields.{Listed, bad, good, need, some, listed_fuses, listed_rest, listed, fault_of, kept, Says, one, number_fault, judge_qf, judge_qp, judge_q, judge_plain, Step, stop, go, step_of, saw_l, judge_l, judge}
+use Rattle.fusefields.specs.Fields.{Listed, bad, good, need, some, listed_fuses, listed_rest, listed, fault_of, kept, Says, one, number_fault, judge_qf, judge_qp, judge_q, judge_plain, stop, go, step_of, saw_l, judge_l, judge}
 use Rattle.fusefields.specs.declared.Seen.{Seen}
-use Rattle.fusefields.specs.declared.Judged.{Judged}
-use Rattle.fusefields.specs.declared.Judged.TheVariants.{Good, Bad}
+use Rattle.fusefields.specs.declared.Judged.TheVariants.{Good}
 use Rattle.fusefields.proofs.Fronts.{fuse_code}
 
 pub says_as : {l k : Listed} {r : ℕ} {a b : List ℕ} → Says l r a b → l ≡ k → Says k r a b

@@ -1,17 +1,17 @@
 -- The outcomes of each step of reading, in the words of the tests that lead to them. Assumes nothing.
-use mathlib.Core.Path.{◌≡◌, refl, sym, ap, ap₂, subst, ◌∙◌}
+use mathlib.Core.Path.{◌≡◌, refl, ap, ap₂, ◌∙◌}
 use mathlib.Core.List.{List, [], ◌∷◌}
-use mathlib.Core.Bool.{Bool, true, false}
-use Prim.Native.Nat.{ℕ, zero, suc, ◌+◌, ◌-◌, ◌%◌, ◌≤◌, ◌<◌}
+use mathlib.Core.Bool.{true, false}
+use Prim.Native.Nat.{ℕ, zero, suc, ◌+◌, ◌-◌, ◌≤◌, ◌<◌}
 use native.Mathlib.Omega.{arith}
 use lib.ListN.{length, take, drop, get_or, drop_of_length-le, length-drop}
 use lib.Seq.{take_all, take-nil}
-use lib.Dec.{leb, ltb, eqb}
+use lib.Dec.{eqb}
 use borrow.Author.Tests.{le-leb, lt-leb, lt-ltb, le-ltb, eq-eqb, ne_eqb}
 use Rattle.basics.specs.Choice.{pick}
 use Rattle.basics.proofs.Lists.{drop_next}
 use Rattle.fusetext.specs.File.{bits}
-use Rattle.fusetext.specs.Outcome.{Outcome, gives, refuses}
+use Rattle.fusetext.specs.Outcome.{gives, refuses}
 use Rattle.fusefields.specs.Bytes.{blank, hexit, not_star, not_end, front}
 use Rattle.fusefields.specs.Fields.{unseen}
 use Rattle.fusefields.specs.declared.Seen.{Seen}

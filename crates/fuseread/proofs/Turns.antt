@@ -1,8 +1,8 @@
 -- The fields by the front before the first `*`, and one turn of the loop over them. Assumes nothing.
-use mathlib.Core.Path.{◌≡◌, refl, sym, ap, ap₂, subst, ◌∙◌}
+use mathlib.Core.Path.{◌≡◌, refl, sym, ap, subst, ◌∙◌}
 use mathlib.Core.List.{List, [], ◌∷◌}
 use mathlib.Core.Bool.{Bool, true, false, not}
-use Prim.Native.Nat.{ℕ, zero, suc, ◌+◌, ◌-◌, ◌≤◌, ◌<◌}
+use Prim.Native.Nat.{ℕ, suc, ◌+◌, ◌-◌, ◌≤◌, ◌<◌}
 use native.Mathlib.Omega.{arith}
 use lib.ListN.{length, take, drop, length-drop}
 use lib.Seq.{take_all, drop-drop}
@@ -15,7 +15,7 @@ use Rattle.fusefields.specs.declared.Seen.{Seen}
 use Rattle.fusefields.specs.declared.Judged.{Judged}
 use Rattle.fusefields.specs.declared.Judged.TheVariants.{Good, Bad}
 use Rattle.fusefields.proofs.Fronts.{front_length, part_front, part_past}
-use Rattle.fuseread.specs.Walk.{glue, pieces, Walked, ended, fault, open_at, next, walk}
+use Rattle.fuseread.specs.Walk.{glue, pieces, ended, fault, open_at, next, walk}
 
 -- ---- the pieces, by the front before the first `*`
 

@@ -1,5 +1,5 @@
 -- Reading a whole fuse file (document 01, 'The fuse file', Reading, and 'Refusal numbers'). Assumes nothing.
-use Rattle.std.specs.Prelude.{◌≡◌, List, [], ◌∷◌, Bool, true, false, ℕ, ◌+◌, ◌%◌, length, take, drop, get_or, replicate, leb, ltb, eqb}
+use Rattle.std.specs.Prelude.{◌≡◌, List, [], ◌∷◌, Bool, true, ℕ, ◌+◌, ◌%◌, length, take, drop, get_or, replicate, leb, ltb, eqb}
 use Rattle.basics.specs.Choice.{pick}
 use Rattle.fusetext.specs.File.{bits, fuse_sum, sum}
 use Rattle.fusetext.specs.Outcome.{Outcome, gives, refuses, left}

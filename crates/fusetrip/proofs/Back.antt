@@ -1,19 +1,18 @@
 -- What was written is read back: the fields. Assumes nothing.
-use mathlib.Core.Path.{◌≡◌, refl, sym, ap, ap₂, subst, ◌∙◌}
+use mathlib.Core.Path.{◌≡◌, refl, sym, ap, ap₂, ◌∙◌}
 use mathlib.Core.List.{List, [], ◌∷◌, ◌++◌, append_assoc}
 use mathlib.Core.Bool.{Bool, true, false, not}
-use Prim.Native.Nat.{ℕ, zero, suc, ◌+◌, ◌-◌, ◌*◌, ◌/◌, ◌%◌, ◌≤◌, ◌<◌, min}
+use Prim.Native.Nat.{ℕ, zero, suc, ◌+◌, ◌-◌, ◌*◌, ◌/◌, ◌%◌, ◌≤◌, ◌<◌}
 use native.Mathlib.Omega.{arith}
 use native.Mathlib.Decide.{dec_le}
 use native.Mathlib.Nat.{mod-eq_of_lt, div-add-mod'}
-use lib.ListN.{length, take, drop, get_or}
-use lib.Dec.{T, leb, ltb, eqb}
-use borrow.Author.Tests.{le-leb, lt-leb, lt-ltb, le-ltb, eq-eqb, ne_eqb}
+use lib.ListN.{length}
+use lib.Dec.{eqb}
+use borrow.Author.Tests.{le-leb, lt-leb, lt-ltb, le-ltb, ne_eqb}
 use Rattle.basics.specs.Choice.{pick}
-use Rattle.basics.specs.Text.{text}
 use Rattle.fusefields.proofs.Judges.{listed_some, rest_some, fuses_good, judge_l_good}
-use Rattle.fusefields.specs.Bytes.{not_star, not_end, blank, digit, fuse, fuse_or_blank, hexit, hex_of, front, past, value, fuses, hex4_of}
-use Rattle.fusefields.specs.Fields.{Listed, bad, good, listed, kept, listed_rest, listed_fuses, Step, go, judge, saw_l, fault_of}
+use Rattle.fusefields.specs.Bytes.{not_star, blank, digit, fuse, fuse_or_blank, hex_of, front, past, value, fuses, hex4_of}
+use Rattle.fusefields.specs.Fields.{Listed, good, listed, kept, listed_rest, listed_fuses, Step, go, judge, saw_l, fault_of}
 use Rattle.fuseread.proofs.Turns.{walk_field}
 use Rattle.fuseread.specs.Walk.{pieces, glue, walk, next}
 use Rattle.fusetext.proofs.Files.{length_digits, pick_both}

@@ -1,13 +1,12 @@
 -- What was written is read back, for every map. Assumes nothing.
 use mathlib.Core.Path.{◌≡◌, refl, sym, ap, ◌∙◌}
 use mathlib.Core.Bool.{true}
-use mathlib.Core.List.{List, [], ◌∷◌, ◌++◌, append-nil}
+use mathlib.Core.List.{List, [], ◌++◌, append-nil}
 use Prim.Native.Nat.{ℕ, ◌≤◌}
 use native.Mathlib.Omega.{arith}
 use lib.ListN.{length, take, drop, drop_of_length-le}
 use lib.Seq.{take_at}
 use borrow.Author.Tests.{le-leb}
-use Rattle.basics.specs.Choice.{pick}
 use Rattle.fusetext.specs.File.{is_map, file_of}
 use Rattle.fusetext.specs.Outcome.{Outcome, gives, refuses, left}
 use Rattle.fusetext.proofs.Files.{map_length_lem, map_bits}

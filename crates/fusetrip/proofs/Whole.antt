@@ -1,34 +1,29 @@
 -- The whole file of a map, read: no byte 3 before its end, the fixed fields, C, and the last four digits. Assumes nothing.
-use mathlib.Core.Path.{◌≡◌, refl, sym, ap, ap₂, subst, ◌∙◌}
+use mathlib.Core.Path.{◌≡◌, refl, sym, ap, ◌∙◌}
 use mathlib.Core.List.{List, [], ◌∷◌, ◌++◌, append_assoc, append-nil}
-use mathlib.Core.Bool.{Bool, true, false, not}
-use Prim.Native.Nat.{ℕ, zero, suc, ◌+◌, ◌-◌, ◌*◌, ◌/◌, ◌%◌, ◌≤◌, ◌<◌}
-use native.Mathlib.Nat.{add-zero}
+use mathlib.Core.Bool.{Bool, true, false}
+use Prim.Native.Nat.{ℕ, zero, suc, ◌+◌, ◌*◌, ◌/◌, ◌%◌, ◌≤◌, ◌<◌}
 use native.Mathlib.Omega.{arith}
 use native.Mathlib.Decide.{dec_le}
 use lib.ListN.{length, take, drop, get_or, length-append, drop_of_length-le}
-use lib.Seq.{take_at, drop_at, take_all, drop-append-add, take-append-add}
-use lib.Dec.{leb, ltb, eqb}
+use lib.Seq.{take_at, take_all, drop-append-add, take-append-add}
+use lib.Dec.{ltb}
 use borrow.Author.Tests.{le-leb, lt-leb, lt-ltb, le-ltb, eq-eqb, ne_eqb}
 use Rattle.basics.specs.Choice.{pick}
 use Rattle.basics.specs.Text.{text}
 use Rattle.fusefields.specs.Bytes.{not_star, not_end, blank, digit, fuse, hexit, front, past, value, hex4_of}
-use Rattle.fusefields.specs.Fields.{Step, go, stop, step_of, unseen, judge, judge_plain, judge_q, judge_qf, judge_qp, judge_g, judge_f, judge_c, number_fault, one}
+use Rattle.fusefields.specs.Fields.{Step, go, unseen, judge, judge_plain, judge_q, judge_qf, judge_qp, judge_g, judge_f, judge_c, number_fault, one}
 use Rattle.fuseread.proofs.Endings.{read_open, opened_star, closing_ending, ending_fine, whole_full, summed_fine}
 use Rattle.fuseread.proofs.Turns.{walk_field}
-use Rattle.fuseread.specs.Reading.{last_sum_fits, read_of, opened, closing, ending, whole, summed, fuse_sum_fits, filled, unlisted}
-use Rattle.fuseread.specs.Walk.{Walked, ended, next, walk, pieces}
-use Rattle.fusetext.proofs.Files.{bits_all, bits_part, sizes}
+use Rattle.fuseread.specs.Reading.{last_sum_fits, read_of, closing, summed, fuse_sum_fits, filled, unlisted}
+use Rattle.fuseread.specs.Walk.{ended, next, walk, pieces}
+use Rattle.fusetext.proofs.Files.{bits_all, sizes}
 use Rattle.fusetext.specs.Digits.{dec4, hex_digit, hex4}
-use Rattle.fusetext.specs.File.{digits, Bits, bits, part, listing, listing_if, zeros, rows, fuse_sum, sum, opening, checking, fields_of, body, file_of}
-use Rattle.fusetext.specs.Outcome.{Outcome, gives}
-use Rattle.fusetext.specs.Put.{put}
+use Rattle.fusetext.specs.File.{digits, bits, part, listing, listing_if, zeros, rows, fuse_sum, sum, opening, checking, fields_of, body, file_of}
+use Rattle.fusetext.specs.Outcome.{gives}
 use Rattle.fusetrip.proofs.Back.{all, all_append, front_append, pieces_append, hex4_of_hex4}
-use Rattle.fusetrip.proofs.Defaults.{Holds}
 use Rattle.fusetrip.proofs.Rows.{Walks, walks_all}
 use Rattle.fusefields.specs.declared.Seen.{Seen}
-use Rattle.fusefields.specs.declared.Judged.{Judged}
-use Rattle.fusefields.specs.declared.Judged.TheVariants.{Good, Bad}
 
 -- ---- no byte 3 before the end
 

@@ -1,13 +1,11 @@
 -- A writer that writes nothing breaks the promise. Assumes nothing.
-use mathlib.Core.Path.{◌≡◌, refl, sym, ap, ◌∙◌}
+use mathlib.Core.Path.{◌≡◌, refl, ap, ◌∙◌}
 use mathlib.Core.Bool.{true}
 use mathlib.Core.List.{List, ◌++◌}
 use Prim.Native.Nat.{ℕ}
 use native.Mathlib.Omega.{arith}
 use lib.ListN.{length, drop, get_or, replicate}
-use Rattle.basics.specs.Choice.{pick}
 use Rattle.fusetext.specs.File.{is_map, opening, fields_of, body, file_of}
-use Rattle.fusetext.specs.Outcome.{left}
 use Rattle.fusewrite.specs.declared.Written.{Written}
 use Rattle.fusewrite.specs.Writing.{write_of, Writes}
 

@@ -1,19 +1,15 @@
 -- A walk along a list goes forward, so it is its first word and then the rest of it.
 -- Assumes nothing.
-use mathlib.Core.Path.{◌≡◌, refl, sym, ap, ◌∙◌}
-use mathlib.Core.Bool.{Bool, true, false}
+use mathlib.Core.Path.{◌≡◌}
 use mathlib.Core.List.{List}
 use Prim.Native.Nat.{ℕ, suc, ◌-◌, ◌<◌, ◌≤◌}
 use native.Mathlib.Omega.{arith}
 use lib.ListN.{length}
 use lib.Dec.{eqb, leb}
 use borrow.Author.Tests.{eqb-false}
-use Rattle.basics.specs.Choice.{pick}
-use Rattle.words.specs.Words.{next_word}
-use Rattle.words.proofs.Forward.{next_forward}
 use Rattle.names.specs.Names.{looked_up, spelling, same}
-use Rattle.grammar.specs.Outcome.{Outcome, ok, no, Turn, more, last}
-use Rattle.grammar.specs.Modules.{word_turn, repeat}
+use Rattle.grammar.specs.Outcome.{Outcome, ok, no, more, last}
+use Rattle.grammar.specs.Modules.{repeat}
 use Rattle.grammar.proofs.Chain.{Near, PastT, other}
 use Rattle.grammar.proofs.Turns.{turn_pick, turn_word, repeat_more, repeat_last, repeat_falls, near_repeat}
 use Rattle.lists.specs.Lists.{is_known, back_turn, back_of, is_back, fresh_name, fresh_turn, fresh_of}

@@ -1,11 +1,11 @@
 -- One name more: what the table holds then.
 -- Assumes nothing.
-use mathlib.Core.Path.{◌≡◌, refl, sym, ap, subst, ◌∙◌}
+use mathlib.Core.Path.{◌≡◌, refl, ap, subst, ◌∙◌}
 use mathlib.Core.List.{List, [], ◌∷◌, ◌++◌, append_assoc}
-use Prim.Native.Nat.{ℕ, zero, suc, ◌+◌, ◌-◌, ◌<◌, ◌≤◌}
+use Prim.Native.Nat.{ℕ, suc, ◌+◌, ◌-◌, ◌<◌, ◌≤◌}
 use native.Mathlib.Omega.{arith}
-use lib.ListN.{length, get_or, set, take, drop, length-drop, length-set, drop_of_length-le}
-use lib.Seq.{sets, sets-eq, drop_at, take_all, length-take-le, ext_get_or, get_or-drop, get_or-set_same, get_or-set_other}
+use lib.ListN.{length, get_or, set, take, drop, length-drop, length-set}
+use lib.Seq.{sets, sets-eq, drop_at, length-take-le, ext_get_or, get_or-drop, get_or-set_same, get_or-set_other}
 use mathlib.Core.Logic.{◌⊎◌, inl, inr}
 use Rattle.basics.proofs.Store.{below_or_not}
 

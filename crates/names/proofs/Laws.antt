@@ -4,15 +4,14 @@ use mathlib.Core.Path.{◌≡◌, refl, sym, ap, ◌∙◌}
 use mathlib.Core.Bool.{Bool, true, false}
 use mathlib.Core.List.{List, [], ◌∷◌}
 use Prim.Native.Nat.{ℕ, zero, suc, ◌+◌, ◌-◌, ◌<◌, ◌≤◌}
-use native.Mathlib.Numerals.{add-one, sub-one}
+use native.Mathlib.Numerals.{sub-one}
 use native.Mathlib.Omega.{arith}
-use lib.ListN.{length, get_or, take, drop, set, drop_of_length-le, length-drop}
-use lib.Seq.{drop-cons, take-nil}
-use lib.Dec.{eqb, leb, ltb}
-use borrow.Author.Tests.{eq-eqb, ne_eqb, lt-ltb, le-ltb, le-leb, lt-leb, leb-true, leb-false}
-use Rattle.basics.specs.Choice.{pick}
+use lib.ListN.{length, get_or, drop, drop_of_length-le, length-drop}
+use lib.Seq.{take-nil}
+use lib.Dec.{leb}
+use borrow.Author.Tests.{eq-eqb, ne_eqb, leb-true, leb-false}
 use Rattle.basics.proofs.Lists.{drop_next}
-use Rattle.names.specs.Names.{Spelling, spelling, same_bytes, alike, same, Entry, Sought, found, missing, find, entry, entries, Seen, known, unknown, shown}
+use Rattle.names.specs.Names.{Spelling, spelling, same_bytes, alike, same, Sought, find, entry, entries, known, unknown, shown}
 
 module _ (s : List ℕ) (x y : ℕ) where
   pub same_more : (n : ℕ) → 0 < n → x < length s → y < length s → get_or s x 0 ≡ get_or s y 0 → alike s n x y ≡ alike s (n - 1) (x + 1) (y + 1)

@@ -1,6 +1,6 @@
 -- What a name means at a place: the names that stand there, the newest first, each known by its spelling. Document 01, 'The language we take':
 -- a loop variable is local and hides an outer name (decision 21).
-use Rattle.std.specs.Prelude.{ℕ, ◌+◌, ◌-◌, Bool, true, false, ◌&&◌, List, [], ◌∷◌, length, take, drop, eqb, leb, ℤ, pos, negsuc}
+use Rattle.std.specs.Prelude.{ℕ, Bool, true, false, ◌&&◌, List, [], ◌∷◌, length, take, drop, eqb, leb, ℤ, pos, negsuc}
 use Rattle.basics.specs.Choice.{pick}
 use Rattle.names.specs.declared.Table.{Table}
 use Rattle.names.specs.declared.Found.{Found}

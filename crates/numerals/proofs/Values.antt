@@ -1,6 +1,5 @@
 -- A number above 10 ^ 18 stays above it, whatever digits follow; and the cases of a word. Assumes nothing.
-use mathlib.Core.Path.{◌≡◌, refl, sym, ap, ap₂, ◌∙◌}
-use mathlib.Core.Bool.{Bool, true, false}
+use mathlib.Core.Path.{◌≡◌, sym, ap, ◌∙◌}
 use mathlib.Core.List.{List, [], ◌∷◌}
 use Prim.Native.Nat.{ℕ, ◌+◌, ◌-◌, ◌*◌, ◌≤◌, ◌<◌, min}
 use native.Mathlib.Omega.{arith}
@@ -8,7 +7,6 @@ use lib.ListN.{length, drop, get_or}
 use Rattle.fusefields.specs.Bytes.{digit, front, value}
 use borrow.Author.Tests.{lt-leb, le-leb}
 use Rattle.fusefields.proofs.Fronts.{value_next}
-use Rattle.numerals.specs.declared.Numeral.{Numeral}
 use Rattle.numerals.specs.declared.Numeral.TheVariants.{Number, Nothing}
 use Rattle.numerals.specs.Numerals.{numeral_of}
 

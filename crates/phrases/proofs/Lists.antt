@@ -7,7 +7,7 @@ use native.Mathlib.Numerals.{sub-one}
 use lib.ListN.{length}
 use Rattle.grammar.specs.Outcome.{Outcome, ok, no, Turn, more, last, and_then}
 use Rattle.grammar.specs.Trees.{checks}
-use Rattle.grammar.specs.Modules.{repeat, numberTurn, numbers, statementTurn, statements, forFrom, for_of}
+use Rattle.grammar.specs.Modules.{numberTurn, numbers, statementTurn, statements, forFrom, for_of}
 use Rattle.grammar.specs.Forms.{blank, checked_statements}
 use Rattle.grammar.proofs.Turns.{repeat_more, repeat_falls, repeat_last, past_number, past_statement, near_for_of}
 

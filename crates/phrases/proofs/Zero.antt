@@ -1,17 +1,17 @@
 -- Reading for sort 0 is the check: it ends where the check ends and has its refusals, whatever names stand there and whatever the room holds.
 -- Assumes nothing.
-use mathlib.Core.Path.{◌≡◌, refl, sym, ap, ap₂, subst, ◌∙◌}
+use mathlib.Core.Path.{◌≡◌, refl, sym, ap, ap₂, subst}
 use mathlib.Core.Bool.{Bool, true, false}
 use mathlib.Core.List.{List}
-use Prim.Native.Nat.{ℕ, zero, suc}
+use Prim.Native.Nat.{ℕ}
 use lib.Dec.{eqb}
 use lib.IntN.{ℤ, pos}
 use Rattle.basics.specs.Choice.{pick}
-use Rattle.grammar.specs.Outcome.{Outcome, ok, no, Built, built, bad}
-use Rattle.grammar.specs.Grammar.{Algebra, index_sort, part_sort, named, expression, nested}
+use Rattle.grammar.specs.Outcome.{Outcome, ok, no, Built, built}
+use Rattle.grammar.specs.Grammar.{index_sort, part_sort, named, expression, nested}
 use Rattle.grammar.specs.Trees.{checks}
 use Rattle.grammar.proofs.Related.{Any, RelB, RelO, rel_named, rel_expression, rel_nested}
-use Rattle.judging.specs.Judging.{Verdict, number, node, fault, mark_of, literal_of, logic_of, plain_of, opened_of, element_of, operator_of}
+use Rattle.judging.specs.Judging.{Verdict, number, mark_of, literal_of, logic_of, plain_of, opened_of, element_of, operator_of}
 use Rattle.judging.specs.Reading.{State, done, based, reads}
 use Rattle.readers.specs.Readers.{inner_of, index_of, expressionOf}
 

@@ -231,7 +231,7 @@ fn simple_statement(text: &[u8], start: usize, end: Cursor, depth: usize) -> End
 }
 
 // A statement, possibly empty.
-#[cycle(for_body_for_loop_for_name_for_range_one_statement_statement_list_statement_turn)]
+#[cycle(phrasing)]
 fn one_statement(text: &[u8], from: Cursor, depth: usize) -> Ended
     ensures { seen_end result ≡ statement checks blank text.now depth (for_of checks blank text.now depth) from.at tt }
 {
@@ -255,7 +255,7 @@ fn one_statement(text: &[u8], from: Cursor, depth: usize) -> Ended
 }
 
 // A statement, and the `;` that another one follows.
-#[cycle(for_body_for_loop_for_name_for_range_one_statement_statement_list_statement_turn)]
+#[cycle(phrasing)]
 fn statement_turn(text: &[u8], from: Cursor, depth: usize) -> Go
     ensures { seen_go result ≡ statementTurn checks blank text.now depth (for_of checks blank text.now depth) tt from.at tt }
 {
@@ -279,7 +279,7 @@ fn statement_turn(text: &[u8], from: Cursor, depth: usize) -> Go
 }
 
 // Statements, separated by `;`, with so many levels of nesting left: where they end, or their refusal.
-#[cycle(for_body_for_loop_for_name_for_range_one_statement_statement_list_statement_turn)]
+#[cycle(phrasing)]
 pub fn statement_list(text: &[u8], from: Cursor, depth: usize) -> Ended
     ensures { seen_end result ≡ checked_statements text.now depth from.at }
 {
@@ -296,7 +296,7 @@ pub fn statement_list(text: &[u8], from: Cursor, depth: usize) -> Ended
 }
 
 // The statements of a FOR and its END, from behind DO.
-#[cycle(for_body_for_loop_for_name_for_range_one_statement_statement_list_statement_turn)]
+#[cycle(phrasing)]
 fn for_body(
     text: &[u8],
     place: usize,
@@ -314,7 +314,7 @@ fn for_body(
 }
 
 // The bounds of a FOR, its statements and its END, from behind its name.
-#[cycle(for_body_for_loop_for_name_for_range_one_statement_statement_list_statement_turn)]
+#[cycle(phrasing)]
 fn for_range(text: &[u8], place: usize, start: usize, end: Cursor, depth: usize) -> Ended
     ensures { seen_end result ≡ ranged checks blank text.now depth (statements checks blank text.now depth (for_of checks blank text.now depth)) place start end.at tt }
 {
@@ -328,7 +328,7 @@ fn for_range(text: &[u8], place: usize, start: usize, end: Cursor, depth: usize)
 }
 
 // Behind the FOR at a place, with so many levels left within it.
-#[cycle(for_body_for_loop_for_name_for_range_one_statement_statement_list_statement_turn)]
+#[cycle(phrasing)]
 fn for_name(text: &[u8], place: usize, from: Cursor, depth: usize) -> Ended
     ensures { seen_end result ≡ forFrom checks blank text.now depth (statements checks blank text.now depth (for_of checks blank text.now depth)) place from.at tt }
 {
@@ -352,7 +352,7 @@ fn for_name(text: &[u8], place: usize, from: Cursor, depth: usize) -> Ended
 }
 
 // Behind the FOR at a place: it takes a level.
-#[cycle(for_body_for_loop_for_name_for_range_one_statement_statement_list_statement_turn)]
+#[cycle(phrasing)]
 fn for_loop(text: &[u8], place: usize, from: Cursor, depth: usize) -> Ended
     ensures { seen_end result ≡ for_of checks blank text.now depth place from.at tt }
 {

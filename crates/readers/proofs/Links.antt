@@ -1,20 +1,20 @@
 -- The readers' parts as the cycle uses them: a turn goes on with the chain from the next value; what was read ends nearer to the text's end.
 -- Assumes nothing.
-use mathlib.Core.Path.{◌≡◌, refl, sym, ap, subst, ◌∙◌}
+use mathlib.Core.Path.{◌≡◌, refl, sym, subst}
 use mathlib.Core.Bool.{Bool, true, false}
 use mathlib.Core.List.{List}
-use Prim.Native.Nat.{ℕ, zero, suc, ◌+◌, ◌-◌, ◌<◌, ◌≤◌}
+use Prim.Native.Nat.{ℕ, zero, suc, ◌-◌, ◌<◌}
 use native.Mathlib.Omega.{arith}
 use native.Mathlib.Numerals.{sub-one}
 use lib.ListN.{length}
 use lib.IntN.{ℤ}
 use Rattle.words.specs.declared.Cursor.{Cursor}
 use Rattle.words.specs.declared.Taken.{Taken}
-use Rattle.words.specs.declared.Taken.TheVariants.{Word, Refused}
+use Rattle.words.specs.declared.Taken.TheVariants.{Word}
 use Rattle.words.specs.Words.{next_word}
 use Rattle.words.proofs.Forward.{Forward, next_forward}
 use Rattle.grammar.specs.Outcome.{Outcome, ok, no, Turn, more, last}
-use Rattle.grammar.specs.Grammar.{Algebra, is_sum, is_product, turn, chain, factor, term, expression, nested}
+use Rattle.grammar.specs.Grammar.{Algebra, is_sum, is_product, turn, nested}
 use Rattle.grammar.proofs.Chain.{Past, PastT, Real, real_sum, real_product, past_turn, links_more, links_last, past_factor, past_term, past_part, past_nested}
 use Rattle.judging.specs.Reading.{State, reads}
 use Rattle.readers.specs.Readers.{inner_of, part_of, factorOf, termOf, expressionOf, sumTurnOf, sumsOf, productTurnOf, products_of}

@@ -13,7 +13,7 @@ use judging::{Opened, Read, Step};
 use words::{Cursor, Taken};
 
 // An expression in what opens at a place: one level fewer is left.
-#[cycle(bracket_expression_factor_index_inner_invert_mux_mux_second_mux_third_negated_part_product_turn_products_reg_rest_sum_turn_sums_term)]
+#[cycle(reading)]
 pub fn inner(
     text: &[u8],
     names: &[u16],
@@ -37,7 +37,7 @@ pub fn inner(
 }
 
 // A factor behind a ~ at a place.
-#[cycle(bracket_expression_factor_index_inner_invert_mux_mux_second_mux_third_negated_part_product_turn_products_reg_rest_sum_turn_sums_term)]
+#[cycle(reading)]
 fn negated(
     text: &[u8],
     names: &[u16],
@@ -61,7 +61,7 @@ fn negated(
 }
 
 // An expression in what opens at a place, and the word of a kind.
-#[cycle(bracket_expression_factor_index_inner_invert_mux_mux_second_mux_third_negated_part_product_turn_products_reg_rest_sum_turn_sums_term)]
+#[cycle(reading)]
 fn part(
     text: &[u8],
     names: &[u16],
@@ -119,7 +119,7 @@ fn part(
 }
 
 // An index in brackets.
-#[cycle(bracket_expression_factor_index_inner_invert_mux_mux_second_mux_third_negated_part_product_turn_products_reg_rest_sum_turn_sums_term)]
+#[cycle(reading)]
 fn bracket(
     text: &[u8],
     names: &[u16],
@@ -176,7 +176,7 @@ fn bracket(
 }
 
 // Past a name: an index, or nothing.
-#[cycle(bracket_expression_factor_index_inner_invert_mux_mux_second_mux_third_negated_part_product_turn_products_reg_rest_sum_turn_sums_term)]
+#[cycle(reading)]
 pub fn index(
     text: &[u8],
     names: &[u16],
@@ -221,7 +221,7 @@ pub fn index(
 }
 
 // The last part of the MUX at a place, whose bracket is at another.
-#[cycle(bracket_expression_factor_index_inner_invert_mux_mux_second_mux_third_negated_part_product_turn_products_reg_rest_sum_turn_sums_term)]
+#[cycle(reading)]
 fn mux_third(
     text: &[u8],
     names: &[u16],
@@ -265,7 +265,7 @@ fn mux_third(
     }
 }
 
-#[cycle(bracket_expression_factor_index_inner_invert_mux_mux_second_mux_third_negated_part_product_turn_products_reg_rest_sum_turn_sums_term)]
+#[cycle(reading)]
 fn mux_second(
     text: &[u8],
     names: &[u16],
@@ -311,7 +311,7 @@ fn mux_second(
 }
 
 // MUX at a place, from past it.
-#[cycle(bracket_expression_factor_index_inner_invert_mux_mux_second_mux_third_negated_part_product_turn_products_reg_rest_sum_turn_sums_term)]
+#[cycle(reading)]
 fn mux(
     text: &[u8],
     names: &[u16],
@@ -375,7 +375,7 @@ fn mux(
 }
 
 // Behind the first part of the REG at a place.
-#[cycle(bracket_expression_factor_index_inner_invert_mux_mux_second_mux_third_negated_part_product_turn_products_reg_rest_sum_turn_sums_term)]
+#[cycle(reading)]
 fn rest(
     text: &[u8],
     names: &[u16],
@@ -444,7 +444,7 @@ fn rest(
 }
 
 // REG at a place, from past it.
-#[cycle(bracket_expression_factor_index_inner_invert_mux_mux_second_mux_third_negated_part_product_turn_products_reg_rest_sum_turn_sums_term)]
+#[cycle(reading)]
 fn reg(
     text: &[u8],
     names: &[u16],
@@ -507,7 +507,7 @@ fn reg(
 }
 
 // A ~ at a place, from past it.
-#[cycle(bracket_expression_factor_index_inner_invert_mux_mux_second_mux_third_negated_part_product_turn_products_reg_rest_sum_turn_sums_term)]
+#[cycle(reading)]
 fn invert(
     text: &[u8],
     names: &[u16],
@@ -538,7 +538,7 @@ fn invert(
     }
 }
 
-#[cycle(bracket_expression_factor_index_inner_invert_mux_mux_second_mux_third_negated_part_product_turn_products_reg_rest_sum_turn_sums_term)]
+#[cycle(reading)]
 fn factor(
     text: &[u8],
     names: &[u16],
@@ -605,7 +605,7 @@ fn factor(
     }
 }
 
-#[cycle(bracket_expression_factor_index_inner_invert_mux_mux_second_mux_third_negated_part_product_turn_products_reg_rest_sum_turn_sums_term)]
+#[cycle(reading)]
 fn product_turn(
     text: &[u8],
     names: &[u16],
@@ -683,7 +683,7 @@ fn product_turn(
     }
 }
 
-#[cycle(bracket_expression_factor_index_inner_invert_mux_mux_second_mux_third_negated_part_product_turn_products_reg_rest_sum_turn_sums_term)]
+#[cycle(reading)]
 fn products(
     text: &[u8],
     names: &[u16],
@@ -732,7 +732,7 @@ fn products(
     }
 }
 
-#[cycle(bracket_expression_factor_index_inner_invert_mux_mux_second_mux_third_negated_part_product_turn_products_reg_rest_sum_turn_sums_term)]
+#[cycle(reading)]
 fn term(
     text: &[u8],
     names: &[u16],
@@ -762,7 +762,7 @@ fn term(
     }
 }
 
-#[cycle(bracket_expression_factor_index_inner_invert_mux_mux_second_mux_third_negated_part_product_turn_products_reg_rest_sum_turn_sums_term)]
+#[cycle(reading)]
 fn sum_turn(
     text: &[u8],
     names: &[u16],
@@ -840,7 +840,7 @@ fn sum_turn(
     }
 }
 
-#[cycle(bracket_expression_factor_index_inner_invert_mux_mux_second_mux_third_negated_part_product_turn_products_reg_rest_sum_turn_sums_term)]
+#[cycle(reading)]
 fn sums(
     text: &[u8],
     names: &[u16],
@@ -889,7 +889,7 @@ fn sums(
     }
 }
 
-#[cycle(bracket_expression_factor_index_inner_invert_mux_mux_second_mux_third_negated_part_product_turn_products_reg_rest_sum_turn_sums_term)]
+#[cycle(reading)]
 pub fn expression(
     text: &[u8],
     names: &[u16],

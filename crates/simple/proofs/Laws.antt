@@ -1,31 +1,30 @@
 -- Simple statements go forward, so the numbers of a list are its first turn and then the rest of it.
 -- Assumes nothing.
-use mathlib.Core.Path.{◌≡◌, refl, sym, ap, subst, ◌∙◌}
+use mathlib.Core.Path.{◌≡◌, sym, ◌∙◌}
 use mathlib.Core.Bool.{Bool, true, false}
 use mathlib.Core.List.{List, [], ◌∷◌}
 use Prim.Native.Nat.{ℕ, suc, ◌+◌, ◌-◌, ◌<◌, ◌≤◌}
 use native.Mathlib.Omega.{arith}
 use native.Mathlib.Nat.{add-zero}
-use lib.ListN.{length, get_or}
+use lib.ListN.{length}
 use lib.Dec.{eqb}
-use lib.IntN.{ℤ, pos, negsuc}
+use lib.IntN.{ℤ, pos}
 use borrow.Author.Tests.{eq-eqb, ne_eqb}
 use Rattle.basics.specs.Choice.{pick}
 use Rattle.words.specs.declared.Cursor.{Cursor}
-use Rattle.words.specs.declared.Taken.{Taken}
-use Rattle.words.specs.declared.Taken.TheVariants.{Word, Refused}
+use Rattle.words.specs.declared.Taken.TheVariants.{Word}
 use Rattle.words.specs.Words.{next_word}
 use Rattle.integers.specs.Integers.{nextℤ}
-use Rattle.grammar.specs.Outcome.{Outcome, ok, no, Turn, more, last, on_word, and_then}
-use Rattle.grammar.specs.Modules.{then_turn, word_turn, repeat}
+use Rattle.grammar.specs.Outcome.{Outcome, ok, no, more, last}
+use Rattle.grammar.specs.Modules.{repeat}
 use Rattle.grammar.proofs.Chain.{Past, Near, PastT, other, past_expression, past_nested, past_named}
 use Rattle.grammar.proofs.Turns.{past_near, near_from, near_then, near_pick, turn_then, turn_pick, near_word, turn_word, repeat_more, repeat_last, repeat_falls, near_repeat}
 use Rattle.judging.specs.Judging.{Meaning, valued, signal, nothing, meaning_of}
 use Rattle.judging.specs.Reading.{State, reads}
 use Rattle.readers.specs.Readers.{inner_of, index_of, expressionOf}
-use Rattle.parts.specs.Parts.{used_at, allows, one_more, assigned_in, positioned_in, miscounted_from}
+use Rattle.parts.specs.Parts.{used_at, allows, one_more, positioned_in, miscounted_from}
 use Rattle.parts.proofs.Runs.{none_more}
-use Rattle.simple.specs.Statements.{Target, element, missed, target_on, upward, target_of, assignmentOf, gaveOf, numberTurn, numbersOf, countedOf, list_of, one_of, position_of, placed_of, behindOf, actOf, simpleOf}
+use Rattle.simple.specs.Statements.{Target, element, missed, target_on, upward, target_of, assignmentOf, gaveOf, numberTurn, numbersOf, list_of, one_of, position_of, placed_of, behindOf, actOf, simpleOf}
 
 module _ (s t : List ℕ) (d : ℕ) where
   pub near_expression : (o from at : ℕ) (x : State) → from ≤ at → Near from (expressionOf s t d o at x)

@@ -1,21 +1,18 @@
 -- What is printed for a fuse file and for a map, by what the reader and the writer answered. Assumes nothing.
-use mathlib.Core.Path.{◌≡◌, refl, sym, ap, subst, ◌∙◌}
-use mathlib.Core.Bool.{Bool, true, false}
+use mathlib.Core.Path.{◌≡◌, sym, ap, subst, ◌∙◌}
 use mathlib.Core.List.{List, ◌++◌}
 use Prim.Native.Nat.{ℕ, ◌+◌, ◌≤◌, ◌<◌}
 use native.Mathlib.Omega.{arith}
-use lib.ListN.{length, take, drop, length-append, length-drop}
+use lib.ListN.{length, take, drop, length-append}
 use lib.Seq.{length-take-le}
-use lib.Dec.{eqb, leb}
 use borrow.Author.Tests.{le-leb, lt-leb, ne_eqb}
-use Rattle.basics.specs.Choice.{pick}
-use Rattle.fusetext.specs.File.{bits, is_map, file_of}
+use Rattle.fusetext.specs.File.{is_map}
 use Rattle.fusetext.specs.Outcome.{Outcome, gives, refuses, left}
-use Rattle.fusetext.specs.Put.{put, Wrote}
+use Rattle.fusetext.specs.Put.{Wrote}
 use Rattle.fusetext.proofs.Puts.{put_front, wrote_front}
 use Rattle.fuseread.specs.declared.Reading.{Reading}
 use Rattle.fuseread.specs.declared.Reading.TheVariants.{Map, Refused}
-use Rattle.fuseread.specs.Reading.{read_of, read_into, outcome_of, Reads}
+use Rattle.fuseread.specs.Reading.{outcome_of, Reads}
 use Rattle.fuseread.proofs.Endings.{into_map}
 use Rattle.fusewrite.specs.declared.Written.{Written}
 use Rattle.fusewrite.specs.declared.Written.TheVariants.{File, Refused as WRefused}

@@ -1,0 +1,14 @@
+use mathlib.Core.Path.{refl}
+use Rattle.basics.proofs.Folds.{listing_start, listing_more, listing_end}
+use Rattle.gallines.specs.Lines.{bits_of}
+use Rattle.gallines.proofs.bits_of.Goals as goal
+
+pub loop-i-init : goal.loop-i-init
+loop-i-init c = listing_start _ _ _ refl
+
+pub loop-i-preserved : goal.loop-i-preserved
+loop-i-preserved c = listing_more _ _ _ _ _ c.loop-i-test.true c.loop-i.invariant c.given_at.ensures
+
+pub returns : goal.returns
+unfolding bits_of
+returns c = listing_end _ _ _ _ c.loop-i-test.false c.loop-i.invariant

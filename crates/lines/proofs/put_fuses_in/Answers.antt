@@ -1,0 +1,27 @@
+use Rattle.lines.proofs.Ends.{fuses_next, fuses_none, length_fuses}
+use Rattle.lines.specs.Line.{fuses_in}
+use Rattle.fusetext.proofs.Puts.{put_turn, put_done}
+use lib.ListN.{drop, length-set}
+use Prim.Native.Nat.{ℕ, ◌+◌}
+use mathlib.Core.Path.{refl, sym, ap, ◌∙◌}
+use native.Mathlib.Omega.{arith}
+use mathlib.Core.List.{◌∷◌}
+use Rattle.lines.proofs.put_fuses_in.Goals as goal
+
+pub loop-j-init : goal.loop-j-init
+loop-j-init c = (refl, omega arith, refl)
+
+pub loop-j-preserved : goal.loop-j-preserved
+loop-j-preserved c = let s = c.args.src.now in
+    let j = c.loop-j.j in (
+      put_turn _ _ _ c.loop-j.invariant.0 (fuses_next s j (omega arith) ∙ ap (λ (x : ℕ). x ∷ fuses_in (drop (j + 1) s)) (sym c.fuse_in.ensures)) (omega arith),
+      omega arith,
+      simp length-set c.loop-j.invariant.2,
+    )
+
+pub returns : goal.returns
+returns c = record {
+  room = simp length_fuses (omega arith);
+  holds = put_done _ _ c.loop-j.invariant.0 (fuses_none c.args.src.now c.loop-j.j (omega arith));
+  ends = simp length_fuses (omega arith);
+}
