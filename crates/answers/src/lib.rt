@@ -2,19 +2,28 @@
 // other error of a read is handed on.
 #![tactic(auto)]
 
-ghost use Rattle.std.specs.Prelude.{◌≡◌, ℕ, ◌≤◌, length, IfOk, IfSome};
+ghost use Rattle.std.specs.Prelude.{◌≡◌, ◌≢◌, ℕ, ◌≤◌, length, IfOk, IfErr, IfSome, IsTrue, ◌↔◌};
+ghost use Rattle.std.specs.IoError.{error_kind};
 
 use std::io;
-use std::io::{ErrorKind, Read};
+use std::io::{Error, ErrorKind, Read};
+
+// Whether a read that failed so may be tried again.
+fn is_interrupted(e: &Error) -> bool
+    ensures { IsTrue result ↔ (error_kind e.now ≡ ErrorKind.Interrupted) }
+{
+    e.kind() == ErrorKind::Interrupted
+}
 
 // One read into the room; nothing is taken where it is interrupted.
 fn read_some<R: Read>(from: &mut R, room: &mut [u8]) -> io::Result<Option<usize>>
     ensures within { IfOk result (λ o. IfSome o (λ n. n ≤ length room.new)) }
+    ensures retried { IfErr result (λ e. error_kind e ≢ ErrorKind.Interrupted) }
 {
     match from.read(room) {
         Ok(n) => Ok(Some(n)),
         Err(e) => {
-            if e.kind() == ErrorKind::Interrupted {
+            if is_interrupted(&e) {
                 return Ok(None);
             }
             Err(e)
@@ -25,6 +34,7 @@ fn read_some<R: Read>(from: &mut R, room: &mut [u8]) -> io::Result<Option<usize>
 // Fills the room from what is read, as far as that goes, and answers with how many bytes.
 pub fn read_full<R: Read>(from: &mut R, room: &mut [u8]) -> io::Result<usize>
     ensures within { IfOk result (λ n. n ≤ length room.new) }
+    ensures retried { IfErr result (λ e. error_kind e ≢ ErrorKind.Interrupted) }
     ensures size { length room.new ≡ length room.old }
 {
     let mut n = 0;
@@ -43,7 +53,8 @@ pub fn read_full<R: Read>(from: &mut R, room: &mut [u8]) -> io::Result<usize>
 
 // Takes what is still to be read, up to 65,536 bytes, and answers how many.
 fn more<R: Read>(from: &mut R) -> io::Result<usize>
-    ensures { IfOk result (λ n. n ≤ 65536) }
+    ensures within { IfOk result (λ n. n ≤ 65536) }
+    ensures retried { IfErr result (λ e. error_kind e ≢ ErrorKind.Interrupted) }
 {
     let mut kept = [0u8; 65536];
     read_full(from, &mut kept)
@@ -51,7 +62,8 @@ fn more<R: Read>(from: &mut R) -> io::Result<usize>
 
 // Takes what is still to be read, to its end, and answers how long the whole of it was if `had` bytes came before. (It stops beyond 2 ^ 62 bytes.)
 pub fn whole_length<R: Read>(from: &mut R, had: usize) -> io::Result<usize>
-    ensures { IfOk result (λ n. had ≤ n) }
+    ensures whole { IfOk result (λ n. had ≤ n) }
+    ensures retried { IfErr result (λ e. error_kind e ≢ ErrorKind.Interrupted) }
 {
     let mut total = had;
     while total < 4611686018427387904 {
@@ -86,6 +98,7 @@ fn keep(buf: &mut [u8], n: usize, b: u8) -> usize
 // Reads a line, and keeps as much of it as there is room for.
 pub fn read_line<R: Read>(from: &mut R, buf: &mut [u8]) -> io::Result<Line>
     ensures within { IfOk result (λ line. line.len ≤ length buf.new) }
+    ensures retried { IfErr result (λ e. error_kind e ≢ ErrorKind.Interrupted) }
     ensures size { length buf.new ≡ length buf.old }
 {
     let mut one = [0u8; 1];
