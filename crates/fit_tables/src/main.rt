@@ -6,14 +6,12 @@ ghost use Rattle.std.specs.Prelude.{◌≡◌, ◌^◌, ◌<◌, length};
 
 use fit::Fitted;
 use rows::Product;
+use std::io;
+use std::io::Write;
 
 const POWERS: [usize; 10] = [1, 2, 4, 8, 16, 32, 64, 128, 256, 512];
 
 const WEIGHTS: [u32; 8] = [1, 2, 4, 8, 16, 32, 64, 128];
-
-const HEX: [u8; 16] = [
-    48, 49, 50, 51, 52, 53, 54, 55, 56, 57, 65, 66, 67, 68, 69, 70,
-];
 
 const BITS: [u32; 22] = [
     1, 2, 4, 8, 16, 32, 64, 128, 256, 512, 1024, 2048, 4096, 8192, 16384, 32768, 65536, 131072,
@@ -344,20 +342,12 @@ fn fit_line(text: &[u8], i: usize, shown: &[u8; 10], room: &mut [u8]) -> Fitted 
     fit_table(k, registered, s0, &table, room, mask(&places))
 }
 
-fn print_kind(kind: u8) {
-    if kind == 2 {
-        io::write_all(1, b" R ");
-        return;
-    }
-    io::write_all(1, b" C ");
+fn kind_mark(kind: u8) -> &'static str {
+    if kind == 2 { "R" } else { "C" }
 }
 
-fn print_polarity(s0: u8) {
-    if s0 == 1 {
-        io::write_all(1, b"H ");
-        return;
-    }
-    io::write_all(1, b"L ");
+fn polarity_mark(s0: u8) -> &'static str {
+    if s0 == 1 { "H" } else { "L" }
 }
 
 // The factors of a cell's products.
@@ -369,14 +359,18 @@ fn factors(masks: [Product; 16], n: usize) -> u32 {
 }
 
 // The line of a cell.
-fn print_cell(pin: usize, kind: u8, s0: u8, n: usize, masks: [Product; 16]) {
-    io::print_decimal(1, pin as u64);
-    print_kind(kind);
-    print_polarity(s0);
-    io::print_decimal(1, n as u64);
-    io::write_all(1, b" ");
-    io::print_decimal(1, factors(masks, n) as u64);
-    io::write_all(1, b"\n");
+fn print_cell<W: Write>(
+    to: &mut W,
+    pin: usize,
+    kind: u8,
+    s0: u8,
+    n: usize,
+    masks: [Product; 16],
+) -> io::Result<()> {
+    let factors = factors(masks, n);
+    let kind = kind_mark(kind);
+    let s0 = polarity_mark(s0);
+    write!(to, "{pin} {kind} {s0} {n} {factors}\n")
 }
 
 // A byte as a number.
@@ -385,16 +379,21 @@ fn wide(x: u8) -> usize {
 }
 
 // The lines of the cells in use, rising by pin.
-fn print_cells(all: [[Product; 16]; 10], counts: [u8; 10], kinds: [u8; 10], s0s: [u8; 10]) {
-    let mut j: usize = 0;
-    while j < 10 {
+fn print_cells<W: Write>(
+    to: &mut W,
+    all: [[Product; 16]; 10],
+    counts: [u8; 10],
+    kinds: [u8; 10],
+    s0s: [u8; 10],
+) -> io::Result<()> {
+    for j in 0..10 {
         let k = 9 - j;
         let masks = all[k];
         if kinds[k] != 0 {
-            print_cell(14 + j, kinds[k], s0s[k], wide(counts[k]), masks);
+            print_cell(to, 14 + j, kinds[k], s0s[k], wide(counts[k]), masks)?;
         }
-        j += 1;
     }
+    Ok(())
 }
 
 // 5,892 fuses.
@@ -424,40 +423,27 @@ fn fuse_sum(map: &[u8]) -> u32
     sum
 }
 
-// A hex digit.
-fn print_hex(d: u32) {
-    let i = (d % 16) as usize;
-    let mut one = [0u8; 1];
-    one[0] = HEX[i];
-    io::write_all(1, &one);
-}
-
-// Four hex digits.
-fn print_sum(sum: u32) {
-    print_hex(sum / 4096);
-    print_hex(sum / 256);
-    print_hex(sum / 16);
-    print_hex(sum);
-    io::write_all(1, b"\n");
-}
-
-// The fuse sum of the map of these cells.
-fn print_map(all: [[Product; 16]; 10], counts: [u8; 10], kinds: [u8; 10], s0s: [u8; 10]) {
+// The fuse sum of the map of these cells, in four hex digits.
+fn print_map<W: Write>(
+    to: &mut W,
+    all: [[Product; 16]; 10],
+    counts: [u8; 10],
+    kinds: [u8; 10],
+    s0s: [u8; 10],
+) -> io::Result<()> {
     let mut map = blank();
     cells::write_map(all, counts, kinds, s0s, &mut map);
-    print_sum(fuse_sum(&map));
-    io::write_all(1, b".\n");
+    let sum = fuse_sum(&map);
+    write!(to, "{sum:04X}\n.\n")
 }
 
 // The first cell that doesn't fit.
-fn print_refusal(pin: usize) {
-    io::write_all(1, b"12 ");
-    io::print_decimal(1, pin as u64);
-    io::write_all(1, b"\n.\n");
+fn print_refusal<W: Write>(to: &mut W, pin: usize) -> io::Result<()> {
+    write!(to, "12 {pin}\n.\n")
 }
 
 // One batch; the place behind it.
-fn batch(text: &[u8], from: usize, room: &mut [u8]) -> usize {
+fn batch<W: Write>(to: &mut W, text: &[u8], from: usize, room: &mut [u8]) -> io::Result<usize> {
     let n = lines(text, from);
     let behind = next(text, skip(text, from, n));
     let mut kinds = [0u8; 10];
@@ -472,8 +458,8 @@ fn batch(text: &[u8], from: usize, room: &mut [u8]) -> usize {
         let f = fit_line(text, i, &shown, room);
         let ok = f.ok;
         if !ok {
-            print_refusal(number(text, i));
-            return behind;
+            print_refusal(to, number(text, i))?;
+            return Ok(behind);
         }
         let k = cell(number(text, i));
         let masks = f.masks;
@@ -484,26 +470,27 @@ fn batch(text: &[u8], from: usize, room: &mut [u8]) -> usize {
         i = next(text, i);
         turn += 1;
     }
-    print_cells(all, counts, kinds, s0s);
-    print_map(all, counts, kinds, s0s);
-    behind
+    print_cells(to, all, counts, kinds, s0s)?;
+    print_map(to, all, counts, kinds, s0s)?;
+    Ok(behind)
 }
 
 // All batches.
-fn run(text: &[u8], room: &mut [u8]) {
+fn run<W: Write>(to: &mut W, text: &[u8], room: &mut [u8]) -> io::Result<()> {
     let mut i: usize = 0;
     while i < text.len() {
-        let behind = batch(text, i, room);
+        let behind = batch(to, text, i, room)?;
         if behind <= i {
-            return;
+            break;
         }
         i = behind;
     }
+    Ok(())
 }
 
-fn main() {
-    let mut text = io::large_buffer();
-    let n = io::read_full(0, &mut text);
-    let mut room = io::large_buffer();
-    run(&text[..n], &mut room);
+fn main(rt: HostRuntime) -> io::Result<()> {
+    let mut text = [0u8; 65536];
+    let n = answers::read_full(&mut rt.stdin(), &mut text)?;
+    let mut room = [0u8; 65536];
+    run(&mut rt.stdout(), &text[..n], &mut room)
 }

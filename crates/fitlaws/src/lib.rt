@@ -1,3 +1,2 @@
 // What the fit program prints of a module is counted in the map that it emits.
 #![tactic(auto)]
-

@@ -1,14 +1,13 @@
 -- One line more, and how long a line is. Assumes nothing.
-use mathlib.Core.Path.{◌≡◌, refl, sym, ap, ◌∙◌}
+use mathlib.Core.Path.{◌≡◌, refl, ap}
 use mathlib.Core.Bool.{Bool, true, false}
-use mathlib.Core.List.{List, [], ◌∷◌, ◌++◌}
-use Prim.Native.Nat.{ℕ, zero, suc, ◌+◌, ◌-◌, ◌*◌, ◌≤◌, ◌<◌}
+use mathlib.Core.List.{List, [], ◌++◌}
+use Prim.Native.Nat.{ℕ, zero, suc, ◌+◌, ◌-◌, ◌*◌, ◌≤◌}
 use native.Mathlib.Numerals.{add-one}
 use native.Mathlib.Omega.{arith}
 use lib.ListN.{length, get_or, length-append}
 use Rattle.basics.specs.Choice.{pick}
 use Rattle.basics.specs.Text.{text}
-use Rattle.lines.specs.Decimal.{decimal}
 use Rattle.lines.proofs.Spelling.{length_decimal}
 use Rattle.gal.specs.Map.{plain_out, registered, enabled}
 use Rattle.fitlines.specs.Lines.{kind_of, level_of, head_of, line_of, line_if, lines_of, lines_by}

@@ -1,6 +1,6 @@
 -- What the fit program prints of a map (document 01, "The fuse file", on the fit program; decision 31). Cells are counted from 0, that of pin 23
 -- first. Assumes nothing.
-use Rattle.std.specs.Prelude.{Bool, List, [], ◌++◌, ℕ, zero, suc, ◌+◌, ◌-◌, get_or}
+use Rattle.std.specs.Prelude.{List, [], ◌++◌, ℕ, zero, suc, ◌+◌, ◌-◌, get_or}
 use Rattle.basics.specs.Choice.{pick}
 use Rattle.basics.specs.Text.{text}
 use Rattle.lines.specs.Decimal.{decimal}

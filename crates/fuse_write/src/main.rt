@@ -2,10 +2,13 @@
 // byte more is enough to tell that there are too many.
 #![tactic(auto)]
 
-fn main() {
+use std::io;
+use std::io::Write;
+
+fn main(rt: HostRuntime) -> io::Result<()> {
     let mut text = [0u8; 5895];
-    let n = io::read_full(0, &mut text);
+    let n = answers::read_full(&mut rt.stdin(), &mut text)?;
     let mut out = [0u8; 7154];
     let k = verbs::write_answer(&text[..n], &mut out);
-    io::write_all(1, &out[..k]);
+    rt.stdout().write_all(&out[..k])
 }

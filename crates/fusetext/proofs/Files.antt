@@ -1,18 +1,18 @@
 -- The laws of the parts of a fuse file: one element more of each, and how long they are. Assumes nothing.
-use mathlib.Core.Path.{◌≡◌, refl, sym, ap, subst, ◌∙◌}
+use mathlib.Core.Path.{◌≡◌, refl, ap, subst}
 use mathlib.Core.List.{List, [], ◌∷◌, ◌++◌}
 use mathlib.Core.Bool.{Bool, true, false}
 use Prim.Native.Nat.{ℕ, zero, suc, ◌+◌, ◌*◌, ◌-◌, ◌≤◌, ◌<◌}
-use lib.ListN.{length, take, drop, get_or, drop_of_length-le, length-append, length-take, length-drop}
+use lib.ListN.{length, take, drop, get_or, drop_of_length-le, length-append, length-drop}
 use lib.Dec.{T, eqb, leb}
-use lib.Seq.{get_or-take, get_or-drop, length-take-le}
+use lib.Seq.{get_or-drop, length-take-le}
 use native.Mathlib.Numerals.{add-one}
 use native.Mathlib.Omega.{arith}
 use borrow.Author.Tests.{leb-true, eqb-true, eq-eqb, ne_eqb}
 use Rattle.basics.specs.Choice.{pick}
 use Rattle.basics.proofs.Lists.{drop_next}
 use Rattle.fusetext.specs.Digits.{dec4, hex4}
-use Rattle.fusetext.specs.File.{digits, zeros, sum, part, listing, listing_if, rows, checking, opening, body, file_of, Bits, bits, is_map}
+use Rattle.fusetext.specs.File.{digits, zeros, sum, part, listing, listing_if, rows, checking, opening, Bits, bits, is_map}
 
 pub digits_next : (s : List ℕ) (j : ℕ) → j < length s → digits (drop j s) ≡ (48 + get_or s j 0) ∷ digits (drop (j + 1) s)
 unfolding digits

@@ -2,60 +2,66 @@
 // twenty-four digits, pins 1 to 24. Each is answered by a line: the pins shown, their values, the registers after the clock; or a refusal.
 #![tactic(auto)]
 
+use std::io;
+use std::io::{Read, Write};
+
 // Answers a line.
-fn put_answer(map: &[u8], line: &[u8]) {
+fn put_answer<W: Write>(to: &mut W, map: &[u8], line: &[u8]) -> io::Result<()> {
     let mut out = [0u8; 61];
     let n = gallines::answer(map, line, &mut out);
-    io::write_all(1, &out[..n]);
+    to.write_all(&out[..n])
 }
 
 // Reads a line into the room lent and answers it; says whether another may follow. The room is larger than any line that is taken, so a line
 // that fills it is not.
-fn next_line(map: &[u8], buf: &mut [u8]) -> bool {
-    let line = answers::read_line(buf);
+fn next_line<R: Read, W: Write>(
+    from: &mut R,
+    to: &mut W,
+    map: &[u8],
+    buf: &mut [u8],
+) -> io::Result<bool> {
+    let line = answers::read_line(from, buf)?;
     let n = line.len;
     if line.ended {
         let k = gallines::contents_of(&buf[..n]);
-        put_answer(map, &buf[..k]);
-        return true;
+        put_answer(to, map, &buf[..k])?;
+        return Ok(true);
     }
     if 0 < n {
-        put_answer(map, &buf[..n]);
-        return false;
+        put_answer(to, map, &buf[..n])?;
     }
-    false
+    Ok(false)
 }
 
 // Reads a line and answers it.
-fn one_line(map: &[u8]) -> bool {
+fn one_line<R: Read, W: Write>(from: &mut R, to: &mut W, map: &[u8]) -> io::Result<bool> {
     let mut buf = [0u8; 37];
-    next_line(map, &mut buf)
+    next_line(from, to, map, &mut buf)
 }
 
 // Answers every line.
-fn answer_all(map: &[u8]) {
-    let mut left: usize = 1000000000000;
-    while 0 < left {
-        left = left - 1;
-        if !one_line(map) {
-            return;
+fn answer_all<R: Read, W: Write>(from: &mut R, to: &mut W, map: &[u8]) -> io::Result<()> {
+    for _ in 0..1000000000000u64 {
+        if !one_line(from, to, map)? {
+            break;
         }
     }
+    Ok(())
 }
 
 // Reads the map into the room lent, and answers every line.
-fn run(buf: &mut [u8]) {
-    let line = answers::read_line(buf);
+fn run<R: Read, W: Write>(from: &mut R, to: &mut W, buf: &mut [u8]) -> io::Result<()> {
+    let line = answers::read_line(from, buf)?;
     let n = line.len;
     if line.ended {
         let k = gallines::contents_of(&buf[..n]);
         gallines::map_in(&mut buf[..k]);
-        answer_all(&buf[..k]);
-        return;
+        return answer_all(from, to, &buf[..k]);
     }
+    Ok(())
 }
 
-fn main() {
+fn main(rt: HostRuntime) -> io::Result<()> {
     let mut buf = [0u8; 5894];
-    run(&mut buf);
+    run(&mut rt.stdin(), &mut rt.stdout(), &mut buf)
 }

@@ -4,42 +4,48 @@
 #![tactic(auto)]
 
 use numerals::Numeral;
+use std::env::{Env, FillError};
+use std::io;
+use std::io::Write;
 
 // The answer to a question about the text on standard input.
-fn answer_input(pin: usize, product: usize) {
+fn answer_input(rt: &HostRuntime, pin: usize, product: usize) -> io::Result<()> {
     let mut text = [0u8; 32769];
-    let n = io::read_full(0, &mut text);
+    let n = answers::read_full(&mut rt.stdin(), &mut text)?;
     let mut out = [0u8; 42];
     let mut room = [0u8; 65536];
     let k = textverbs::ask_answer(&text[..n], pin, product, &mut out, &mut room);
-    io::write_all(1, &out[..k]);
+    rt.stdout().write_all(&out[..k])
 }
 
-fn usage() {
-    io::write_all(2, b"usage: lola_ask PIN NUMBER < TEXT\n");
+fn usage(rt: &HostRuntime) -> io::Result<()> {
+    rt.stderr()
+        .write_all(b"usage: lola_ask PIN NUMBER < TEXT\n")
 }
 
 // Argument i as a number. Linux passes none of more than 131,071 bytes.
-fn argument(i: usize) -> Numeral {
+fn argument(rt: &HostRuntime, i: usize) -> Numeral {
     let mut word = [0u8; 131072];
-    let n = os::arg(i, &mut word);
-    numerals::number_of(&word[..n])
-}
-
-fn ask_about(pin: usize) {
-    match argument(2) {
-        Numeral::Number { value } => answer_input(pin, value),
-        Numeral::Nothing => usage(),
+    match rt.arg(i, &mut word) {
+        Ok(n) => numerals::number_of(&word[..n]),
+        Err(_) => Numeral::Nothing,
     }
 }
 
-fn main() {
-    if os::arg_count() != 3 {
-        usage();
-        return;
+// Whether there is an argument i. (A longer one than the room is one too.)
+fn is_given(rt: &HostRuntime, i: usize) -> bool {
+    let mut word = [0u8; 1];
+    !matches!(rt.arg(i, &mut word), Err(FillError::NotPresent))
+}
+
+fn main(rt: HostRuntime) -> io::Result<()> {
+    if is_given(&rt, 3) {
+        return usage(&rt);
     }
-    match argument(1) {
-        Numeral::Number { value } => ask_about(value),
-        Numeral::Nothing => usage(),
+    match (argument(&rt, 1), argument(&rt, 2)) {
+        (Numeral::Number { value: pin }, Numeral::Number { value: product }) => {
+            answer_input(&rt, pin, product)
+        }
+        _ => usage(&rt),
     }
 }

@@ -3,6 +3,8 @@
 #![tactic(auto)]
 
 use kinvlopt::{Compiled, Fitted, Graded, Written};
+use std::io;
+use std::io::Write;
 
 // Whether all bytes are b.
 fn all_are(s: &[u8], b: u8) -> bool {
@@ -16,155 +18,151 @@ fn all_are(s: &[u8], b: u8) -> bool {
     true
 }
 
-fn put_lengths(call: &[u8], out: usize, room: usize) {
-    io::write_all(1, call);
-    io::print_decimal(1, out as u64);
-    io::write_all(1, b" ");
-    io::print_decimal(1, room as u64);
-    io::write_all(1, b": ");
+fn put_lengths<W: Write>(to: &mut W, call: &str, out: usize, room: usize) -> io::Result<()> {
+    write!(to, "{call} {out} {room}: ")
 }
 
-fn put_refusal(number: u8, place: usize) {
-    io::write_all(1, b"refused ");
-    io::print_decimal(1, number as u64);
-    io::write_all(1, b" ");
-    io::print_decimal(1, place as u64);
+fn put_refusal<W: Write>(to: &mut W, number: u8, place: usize) -> io::Result<()> {
+    write!(to, "refused {number} {place}")
 }
 
-fn put_bytes(len: usize) {
-    io::print_decimal(1, len as u64);
-    io::write_all(1, b" bytes");
+fn put_bytes<W: Write>(to: &mut W, len: usize) -> io::Result<()> {
+    write!(to, "{len} bytes")
 }
 
 // What the memory holds after a call.
-fn put_memory(out: &[u8], room: &[u8]) {
+fn put_memory<W: Write>(to: &mut W, out: &[u8], room: &[u8]) -> io::Result<()> {
     if all_are(out, 7) {
-        io::write_all(1, b", output as it was");
+        to.write_all(b", output as it was")?;
     } else {
-        io::write_all(1, b", output written");
+        to.write_all(b", output written")?;
     }
     if all_are(room, 0) {
-        io::write_all(1, b", room zeroed\n");
+        to.write_all(b", room zeroed\n")
     } else {
-        io::write_all(1, b", room not zeroed\n");
+        to.write_all(b", room not zeroed\n")
     }
 }
 
-fn try_compile(text: &[u8], out: &mut [u8], room: &mut [u8]) {
-    put_lengths(b"compile ", out.len(), room.len());
+fn try_compile<W: Write>(
+    to: &mut W,
+    text: &[u8],
+    out: &mut [u8],
+    room: &mut [u8],
+) -> io::Result<()> {
+    put_lengths(to, "compile", out.len(), room.len())?;
     match kinvlopt::compile(text, out, room) {
-        Compiled::File { len } => put_bytes(len),
-        Compiled::Refused { number, place } => put_refusal(number, place),
+        Compiled::File { len } => put_bytes(to, len)?,
+        Compiled::Refused { number, place } => put_refusal(to, number, place)?,
     }
-    put_memory(out, room);
+    put_memory(to, out, room)
 }
 
-fn try_fit(text: &[u8], out: &mut [u8], room: &mut [u8]) {
-    put_lengths(b"fit ", out.len(), room.len());
+fn try_fit<W: Write>(to: &mut W, text: &[u8], out: &mut [u8], room: &mut [u8]) -> io::Result<()> {
+    put_lengths(to, "fit", out.len(), room.len())?;
     match kinvlopt::fit(text, out, room) {
-        Fitted::Lines { len } => put_bytes(len),
-        Fitted::Refused { number, place } => put_refusal(number, place),
+        Fitted::Lines { len } => put_bytes(to, len)?,
+        Fitted::Refused { number, place } => put_refusal(to, number, place)?,
     }
-    put_memory(out, room);
+    put_memory(to, out, room)
 }
 
-fn put_grade(graded: Graded) {
+fn put_grade<W: Write>(to: &mut W, graded: Graded) -> io::Result<()> {
     match graded {
-        Graded::NoImplicant => {
-            io::write_all(1, b"no implicant");
-        }
-        Graded::Implicant => {
-            io::write_all(1, b"implicant");
-        }
-        Graded::Prime => {
-            io::write_all(1, b"prime");
-        }
-        Graded::Refused { number, place } => {
-            put_refusal(number, place);
-        }
+        Graded::NoImplicant => to.write_all(b"no implicant"),
+        Graded::Implicant => to.write_all(b"implicant"),
+        Graded::Prime => to.write_all(b"prime"),
+        Graded::Refused { number, place } => put_refusal(to, number, place),
     }
 }
 
-fn try_ask(text: &[u8], room: &mut [u8]) {
-    put_lengths(b"ask ", 0, room.len());
+fn try_ask<W: Write>(to: &mut W, text: &[u8], room: &mut [u8]) -> io::Result<()> {
+    put_lengths(to, "ask", 0, room.len())?;
     let graded = kinvlopt::ask(text, 23, 1, room);
-    put_grade(graded);
-    put_memory(b"", room);
+    put_grade(to, graded)?;
+    put_memory(to, b"", room)
 }
 
-fn try_write(map: &[u8], out: &mut [u8]) {
-    put_lengths(b"write ", out.len(), 0);
+fn try_write<W: Write>(to: &mut W, map: &[u8], out: &mut [u8]) -> io::Result<()> {
+    put_lengths(to, "write", out.len(), 0)?;
     match kinvlopt::write(map, out) {
-        Written::File { len } => put_bytes(len),
-        Written::Refused { number, place } => put_refusal(number, place),
+        Written::File { len } => put_bytes(to, len)?,
+        Written::Refused { number, place } => put_refusal(to, number, place)?,
     }
-    put_memory(out, b"");
+    put_memory(to, out, b"")
 }
 
-fn compile_whole(text: &[u8]) {
+fn compile_whole<W: Write>(to: &mut W, text: &[u8]) -> io::Result<()> {
     let mut out = [7u8; 7154];
     let mut room = [7u8; 65536];
-    try_compile(text, &mut out, &mut room);
+    try_compile(to, text, &mut out, &mut room)
 }
 
-fn compile_short_output(text: &[u8]) {
+fn compile_short_output<W: Write>(to: &mut W, text: &[u8]) -> io::Result<()> {
     let mut out = [7u8; 7153];
     let mut room = [7u8; 65536];
-    try_compile(text, &mut out, &mut room);
+    try_compile(to, text, &mut out, &mut room)
 }
 
-fn compile_short_room(text: &[u8]) {
+fn compile_short_room<W: Write>(to: &mut W, text: &[u8]) -> io::Result<()> {
     let mut out = [7u8; 7154];
     let mut room = [7u8; 65535];
-    try_compile(text, &mut out, &mut room);
+    try_compile(to, text, &mut out, &mut room)
 }
 
-fn fit_whole(text: &[u8]) {
+fn fit_whole<W: Write>(to: &mut W, text: &[u8]) -> io::Result<()> {
     let mut out = [7u8; 7154];
     let mut room = [7u8; 65536];
-    try_fit(text, &mut out, &mut room);
+    try_fit(to, text, &mut out, &mut room)
 }
 
-fn fit_short_output(text: &[u8]) {
+fn fit_short_output<W: Write>(to: &mut W, text: &[u8]) -> io::Result<()> {
     let mut out = [7u8; 7153];
     let mut room = [7u8; 65536];
-    try_fit(text, &mut out, &mut room);
+    try_fit(to, text, &mut out, &mut room)
 }
 
-fn fit_short_room(text: &[u8]) {
+fn fit_short_room<W: Write>(to: &mut W, text: &[u8]) -> io::Result<()> {
     let mut out = [7u8; 7154];
     let mut room = [7u8; 65535];
-    try_fit(text, &mut out, &mut room);
+    try_fit(to, text, &mut out, &mut room)
 }
 
-fn ask_both(text: &[u8]) {
+fn ask_both<W: Write>(to: &mut W, text: &[u8]) -> io::Result<()> {
     let mut room = [7u8; 65536];
-    try_ask(text, &mut room);
+    try_ask(to, text, &mut room)?;
     let mut short = [7u8; 65535];
-    try_ask(text, &mut short);
+    try_ask(to, text, &mut short)
 }
 
-fn write_both() {
+fn write_both<W: Write>(to: &mut W) -> io::Result<()> {
     let map = [0u8; 5892];
     let mut out = [7u8; 7154];
-    try_write(&map, &mut out);
+    try_write(to, &map, &mut out)?;
     let mut short = [7u8; 7153];
-    try_write(&map, &mut short);
+    try_write(to, &map, &mut short)
 }
 
 // Everything with one text.
-fn all_of(text: &[u8]) {
-    compile_whole(text);
-    compile_short_output(text);
-    compile_short_room(text);
-    fit_whole(text);
-    fit_short_output(text);
-    fit_short_room(text);
-    ask_both(text);
-    write_both();
+fn all_of<W: Write>(to: &mut W, text: &[u8]) -> io::Result<()> {
+    compile_whole(to, text)?;
+    compile_short_output(to, text)?;
+    compile_short_room(to, text)?;
+    fit_whole(to, text)?;
+    fit_short_output(to, text)?;
+    fit_short_room(to, text)?;
+    ask_both(to, text)?;
+    write_both(to)
 }
 
-fn main() {
-    all_of(b"MODULE T; IN a: BIT; OUT y: BIT; BEGIN a::2; y::23; y := REG(y - a) END T.");
-    all_of(b"MODULE T; IN a: BIT; OUT y: BIT; BEGIN a::2; y::23; y := REG(y - b) END T.");
+fn main(rt: HostRuntime) -> io::Result<()> {
+    let mut to = rt.stdout();
+    all_of(
+        &mut to,
+        b"MODULE T; IN a: BIT; OUT y: BIT; BEGIN a::2; y::23; y := REG(y - a) END T.",
+    )?;
+    all_of(
+        &mut to,
+        b"MODULE T; IN a: BIT; OUT y: BIT; BEGIN a::2; y::23; y := REG(y - b) END T.",
+    )
 }

@@ -5,7 +5,10 @@
 // 65,537 bytes.
 #![tactic(auto)]
 
-ghost use Rattle.std.specs.Prelude.{◌≡◌, ℕ, ◌≤◌, length};
+ghost use Rattle.std.specs.Prelude.{◌≡◌, ℕ, ◌≤◌, length, IfOk};
+
+use std::io;
+use std::io::{Read, Write};
 
 // A record's first line: the first letter of its verb, its last three numbers, each 0 where there are fewer, and whether its LF was there.
 #[derive(Clone, Copy)]
@@ -76,7 +79,7 @@ fn with_end(head: Head) -> Head {
 }
 
 // Reads a record's first line.
-fn head_read() -> Head {
+fn head_read<R: Read>(from: &mut R) -> io::Result<Head> {
     let mut one = [0u8; 1];
     let mut head = Head {
         verb: 0,
@@ -87,18 +90,18 @@ fn head_read() -> Head {
     };
     let mut n: usize = 0;
     while n < 1000000000000 {
-        let got = io::read_full(0, &mut one);
+        let got = answers::read_full(from, &mut one)?;
         if got == 0 {
-            return head;
+            return Ok(head);
         }
         let b = one[0];
         if b == 10 {
-            return with_end(head);
+            return Ok(with_end(head));
         }
         head = with_next(head, n, b);
         n += 1;
     }
-    head
+    Ok(head)
 }
 
 fn least(a: usize, b: usize) -> usize
@@ -110,42 +113,44 @@ fn least(a: usize, b: usize) -> usize
     b
 }
 
-// Takes some of the next n bytes of standard input, and answers how many.
-fn pass(n: usize, room: &mut [u8]) -> usize
-    ensures { result ≤ n }
+// Takes some of the next n bytes, and answers how many.
+fn pass<R: Read>(from: &mut R, n: usize, room: &mut [u8]) -> io::Result<usize>
+    ensures { IfOk result (λ k. k ≤ n) }
 {
     let k = least(n, room.len());
-    io::read_full(0, &mut room[..k])
+    answers::read_full(from, &mut room[..k])
 }
 
-fn skip_some(n: usize) -> usize
-    ensures { result ≤ n }
+fn skip_some<R: Read>(from: &mut R, n: usize) -> io::Result<usize>
+    ensures { IfOk result (λ k. k ≤ n) }
 {
-    let mut room = io::buffer();
-    pass(n, &mut room)
+    let mut room = [0u8; 4096];
+    pass(from, n, &mut room)
 }
 
-// Takes the next n bytes of standard input.
-fn skip(n: usize) {
+// Takes the next n bytes.
+fn skip<R: Read>(from: &mut R, n: usize) -> io::Result<()> {
     let mut left = n;
     while 0 < left {
-        let got = skip_some(left);
+        let got = skip_some(from, left)?;
         if got < 1 {
-            return;
+            break;
         }
         left = left - got;
     }
+    Ok(())
 }
 
 // Takes a record's bytes and the LF behind them; as many as there is room for are kept.
-fn payload(len: usize, input: &mut [u8]) -> usize
-    ensures { result ≤ length input.new }
+fn payload<R: Read>(from: &mut R, len: usize, input: &mut [u8]) -> io::Result<usize>
+    ensures within { IfOk result (λ n. n ≤ length input.new) }
+    ensures size { length input.new ≡ length input.old }
 {
     let k = least(len, input.len());
-    let n = io::read_full(0, &mut input[..k]);
-    skip(len - k);
-    skip(1);
-    n
+    let n = answers::read_full(from, &mut input[..k])?;
+    skip(from, len - k)?;
+    skip(from, 1)?;
+    Ok(n)
 }
 
 // What is printed for a record about the device of which n bytes are kept.
@@ -206,53 +211,78 @@ fn answer(head: Head, n: usize, input: &mut [u8], out: &mut [u8], room: &mut [u8
 }
 
 // Prints an answer.
-fn put_out(index: usize, bytes: &[u8]) {
-    io::write_all(1, b"#");
-    io::print_decimal(1, index as u64);
-    io::write_all(1, b" ");
-    io::print_decimal(1, bytes.len() as u64);
-    io::write_all(1, b"\n");
-    io::write_all(1, bytes);
-    io::write_all(1, b"\n");
+fn put_out<W: Write>(to: &mut W, index: usize, bytes: &[u8]) -> io::Result<()> {
+    let len = bytes.len();
+    write!(to, "#{index} {len}\n")?;
+    to.write_all(bytes)?;
+    to.write_all(b"\n")
 }
 
 // Answers a record whose first line was read.
-fn answer_to(index: usize, head: Head, input: &mut [u8], out: &mut [u8], room: &mut [u8])
+fn answer_to<R: Read, W: Write>(
+    from: &mut R,
+    to: &mut W,
+    index: usize,
+    head: Head,
+    input: &mut [u8],
+    out: &mut [u8],
+    room: &mut [u8],
+) -> io::Result<()>
     requires { (length input.old ≡ 65537) × (length out.old ≡ 327685) × (length room.old ≡ 65536) }
 {
-    let n = payload(head.len, input);
+    let n = payload(from, head.len, input)?;
     let k = answer(head, n, input, out, room);
-    put_out(index, &out[..k]);
+    put_out(to, index, &out[..k])
 }
 
 // Reads a record and answers it; says whether there was one.
-fn next(index: usize, input: &mut [u8], out: &mut [u8], room: &mut [u8]) -> bool
+fn next<R: Read, W: Write>(
+    from: &mut R,
+    to: &mut W,
+    index: usize,
+    input: &mut [u8],
+    out: &mut [u8],
+    room: &mut [u8],
+) -> io::Result<bool>
     requires { (length input.old ≡ 65537) × (length out.old ≡ 327685) × (length room.old ≡ 65536) }
 {
-    let head = head_read();
+    let head = head_read(from)?;
     if head.ended {
-        answer_to(index, head, input, out, room);
-        return true;
+        answer_to(from, to, index, head, input, out, room)?;
+        return Ok(true);
     }
-    false
+    Ok(false)
 }
 
 // Answers every record.
-fn run(input: &mut [u8], out: &mut [u8], room: &mut [u8])
+fn run<R: Read, W: Write>(
+    from: &mut R,
+    to: &mut W,
+    input: &mut [u8],
+    out: &mut [u8],
+    room: &mut [u8],
+) -> io::Result<()>
     requires { (length input.old ≡ 65537) × (length out.old ≡ 327685) × (length room.old ≡ 65536) }
 {
     let mut index: usize = 0;
     while index < 1000000000000 {
-        if !next(index, input, out, room) {
-            return;
+        if !next(from, to, index, input, out, room)? {
+            break;
         }
         index += 1;
     }
+    Ok(())
 }
 
-fn main() {
+fn main(rt: HostRuntime) -> io::Result<()> {
     let mut input = [0u8; 65537];
     let mut out = [0u8; 327685];
     let mut room = [0u8; 65536];
-    run(&mut input, &mut out, &mut room);
+    run(
+        &mut rt.stdin(),
+        &mut rt.stdout(),
+        &mut input,
+        &mut out,
+        &mut room,
+    )
 }

@@ -1,4 +1,3 @@
-use borrow.Author.Rules.{rules}
 use borrow.Author.Tests.{le-ltb, lt-ltb}
 use Rattle.device.specs.Device.{pair_of}
 use Rattle.device.proofs.pair.Goals as goal

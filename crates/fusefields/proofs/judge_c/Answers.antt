@@ -4,7 +4,6 @@ use Prim.Native.Nat.{◌<◌, ◌≤◌}
 use lib.ListN.{length}
 use Rattle.fusefields.specs.Bytes.{front, hexit}
 use Rattle.fusefields.specs.Fields.{judge_c}
-use borrow.Author.Rules.{rules}
 use Rattle.fusefields.proofs.judge_c.Goals as goal
 
 pub returns-then-s-ne65536 : goal.returns-then-s-ne65536
@@ -15,17 +14,9 @@ pub returns-then-xs-ne4 : goal.returns-then-xs-ne4
 unfolding judge_c
 returns-then-xs-ne4 c = rw (eq-eqb _ _ c.if-s-ne65536.false, ne_eqb _ _ c.if-xs-ne4.true)
 
-pub run-requires : goal.run-requires
-unfolding judge_c
-run-requires c = search rules
-
 pub returns-then-run-xs : goal.returns-then-run-xs
 unfolding judge_c
 returns-then-run-xs c = let k : length (front hexit c.args.xs.now) < length c.args.xs.now = omega arith in rw (eq-eqb _ _ c.if-s-ne65536.false, eq-eqb _ _ c.if-xs-ne4.false, lt-leb _ _ k)
-
-pub hex4_of-requires : goal.hex4_of-requires
-unfolding judge_c
-hex4_of-requires c = search rules
 
 pub returns : goal.returns
 unfolding judge_c

@@ -3,7 +3,6 @@ use mathlib.Core.Path.{sym, ◌∙◌}
 use borrow.Author.Tests.{eq-eqb, ne_eqb}
 use Rattle.fusefields.proofs.Judges.{one_length, one_code}
 use Rattle.fusefields.specs.Fields.{judge_f}
-use borrow.Author.Rules.{rules}
 use Rattle.fusefields.proofs.judge_f.Goals as goal
 
 pub returns-then-s-ne2 : goal.returns-then-s-ne2
@@ -13,10 +12,6 @@ returns-then-s-ne2 c = rw (c.if-s.true, ne_eqb _ _ c.if-s-ne2.true)
 pub returns-then-s-2 : goal.returns-then-s-2
 unfolding judge_f
 returns-then-s-2 c = rw (c.if-s.true, eq-eqb _ _ c.if-s-ne2.false, c.if-s-2.true)
-
-pub is_one-requires : goal.is_one-requires
-unfolding judge_f
-is_one-requires c = search rules
 
 pub bounds-xs-0 : goal.bounds-xs-0
 unfolding judge_f

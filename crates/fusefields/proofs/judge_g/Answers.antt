@@ -1,14 +1,9 @@
 use Rattle.fusefields.specs.Fields.{judge_g}
-use borrow.Author.Rules.{rules}
 use Rattle.fusefields.proofs.judge_g.Goals as goal
 
 pub returns-then-s : goal.returns-then-s
 unfolding judge_g
 returns-then-s c = rw (c.if-s.true)
-
-pub is_one-requires : goal.is_one-requires
-unfolding judge_g
-is_one-requires c = search rules
 
 pub returns-then-is_one : goal.returns-then-is_one
 unfolding judge_g

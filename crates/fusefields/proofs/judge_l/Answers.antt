@@ -2,24 +2,11 @@ use mathlib.Core.Path.{sym, ◌∙◌}
 use borrow.Author.Tests.{ne_eqb}
 use Rattle.fusefields.proofs.Judges.{judge_l_good}
 use Rattle.fusefields.specs.Fields.{judge_l}
-use borrow.Author.Rules.{rules}
 use Rattle.fusefields.proofs.judge_l.Goals as goal
-
-pub list-e-requires : goal.list-e-requires
-unfolding judge_l
-list-e-requires c = search rules
-
-pub shape_of-cells-then-e-ne0 : goal.shape_of-cells-then-e-ne0
-unfolding judge_l
-shape_of-cells-then-e-ne0 c = search rules
 
 pub returns-then-e-ne0 : goal.returns-then-e-ne0
 unfolding judge_l
 returns-then-e-ne0 c = rw (c.if-s.true, ← c.list-e.ensures.fault, ne_eqb _ _ c.if-e-ne0.true)
-
-pub shape_of-cells-then-s : goal.shape_of-cells-then-s
-unfolding judge_l
-shape_of-cells-then-s c = search rules
 
 pub returns-then-s : goal.returns-then-s
 returns-then-s c = judge_l_good _ _ _ _ c.if-s.true (sym c.list-e.ensures.fault ∙ c.if-e-ne0.false) c.list-e.ensures.cells

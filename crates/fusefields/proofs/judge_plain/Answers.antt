@@ -1,35 +1,18 @@
 use borrow.Author.Tests.{lt-ltb, le-ltb, le-leb, lt-leb, eq-eqb, ne_eqb}
 use Rattle.fusefields.specs.Fields.{judge_plain}
-use borrow.Author.Rules.{rules}
 use Rattle.fusefields.proofs.judge_plain.Goals as goal
-
-pub judge_c-requires : goal.judge_c-requires
-unfolding judge_plain
-judge_c-requires c = search rules
 
 pub returns-then-x-eq67 : goal.returns-then-x-eq67
 unfolding judge_plain
 returns-then-x-eq67 c = rw (eq-eqb _ _ c.if-x-eq67.true) c.judge_c.ensures
 
-pub judge_f-requires : goal.judge_f-requires
-unfolding judge_plain
-judge_f-requires c = search rules
-
 pub returns-then-x-eq70 : goal.returns-then-x-eq70
 unfolding judge_plain
 returns-then-x-eq70 c = rw (ne_eqb _ _ c.if-x-eq67.false, eq-eqb _ _ c.if-x-eq70.true) c.judge_f.ensures
 
-pub judge_g-requires : goal.judge_g-requires
-unfolding judge_plain
-judge_g-requires c = search rules
-
 pub returns-then-x-eq71 : goal.returns-then-x-eq71
 unfolding judge_plain
 returns-then-x-eq71 c = rw (ne_eqb _ _ c.if-x-eq67.false, ne_eqb _ _ c.if-x-eq70.false, eq-eqb _ _ c.if-x-eq71.true) c.judge_g.ensures
-
-pub judge_q-requires : goal.judge_q-requires
-unfolding judge_plain
-judge_q-requires c = search rules
 
 pub returns-then-x-eq81 : goal.returns-then-x-eq81
 unfolding judge_plain

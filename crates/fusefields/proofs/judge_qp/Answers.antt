@@ -1,15 +1,10 @@
 use borrow.Author.Tests.{eq-eqb, ne_eqb}
 use Rattle.fusefields.specs.Fields.{judge_qp}
-use borrow.Author.Rules.{rules}
 use Rattle.fusefields.proofs.judge_qp.Goals as goal
 
 pub returns-then-s : goal.returns-then-s
 unfolding judge_qp
 returns-then-s c = rw (c.if-s.true)
-
-pub number_fault-e-requires : goal.number_fault-e-requires
-unfolding judge_qp
-number_fault-e-requires c = search rules
 
 pub returns-then-e-ne0 : goal.returns-then-e-ne0
 unfolding judge_qp

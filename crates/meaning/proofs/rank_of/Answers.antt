@@ -1,21 +1,14 @@
 use Rattle.meaning.proofs.Ordering.{count_more, count_small, count_none, bit_one}
-use Rattle.basics.specs.Below.{tally}
 use Rattle.basics.specs.Choice.{bit}
-use mathlib.Core.Path.{◌≡◌, ap, ◌∙◌}
+use mathlib.Core.Path.{ap, ◌∙◌}
 use native.Mathlib.Omega.{arith}
 use Rattle.meaning.proofs.rank_of.Goals as goal
 
 pub loop-j-init : goal.loop-j-init
 loop-j-init c = (omega arith, count_none _)
 
-pub loop-j-smaller : goal.loop-j-smaller
-loop-j-smaller c = omega (arith, c.loop-j-test.true)
-
 pub loop-j-preserved : goal.loop-j-preserved
 loop-j-preserved c = (omega (arith, c.loop-j-test.true), count_more _ _ _ _ c.loop-j.invariant.1 (c.byte_of-n.ensures ∙ ap bit c.named.ensures))
-
-pub returns : goal.returns
-returns c = let e : c.loop-j.j ≡ 64 = omega (arith, c.loop-j.invariant.0, c.loop-j-test.false) in c.loop-j.invariant.1 ∙ ap (tally _) e
 
 pub overflow_add-n : goal.overflow_add-n
 overflow_add-n c = let a = count_small _ _ _ c.loop-j.invariant.1 in let b = bit_one _ c.named.result c.byte_of-n.ensures in omega (arith, c.loop-j-test.true)

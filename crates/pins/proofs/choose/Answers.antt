@@ -1,20 +1,11 @@
 use Rattle.pins.proofs.Choosing.{choosing_start, choosing_more, choosing_end, pin_small, power_small, weight_small}
 use Rattle.pins.specs.Named.{names_pin}
-use mathlib.Core.Path.{sym, ap, ◌∙◌}
+use mathlib.Core.Path.{ap, ◌∙◌}
 use native.Mathlib.Omega.{arith}
 use Rattle.pins.proofs.choose.Goals as goal
 
 pub loop-i-init : goal.loop-i-init
 loop-i-init c = choosing_start _ _ _ _ c.requires.vars_len
-
-pub variable_pin-p-requires : goal.variable_pin-p-requires
-variable_pin-p-requires c = c.loop-i-test.true
-
-pub is_named_pin-named-requires : goal.is_named_pin-named-requires
-is_named_pin-named-requires c = record {
-  row_value = c.requires.row_value;
-  o_bound = c.requires.o_bound;
-}
 
 pub push-n-requires : goal.push-n-requires
 push-n-requires c = let a = c.loop-i.invariant.size in let b = c.loop-i.invariant.fits in let l = c.loop-i-test.true in let s = pin_small c.args.rows _ c.loop-i-test.true in record {
@@ -23,14 +14,8 @@ push-n-requires c = let a = c.loop-i.invariant.size in let b = c.loop-i.invarian
   x_bound = omega (arith, c.variable_pin-p.ensures, s);
 }
 
-pub loop-i-smaller : goal.loop-i-smaller
-loop-i-smaller c = omega (arith, c.loop-i-test.true)
-
 pub loop-i-preserved : goal.loop-i-preserved
 loop-i-preserved c = choosing_more _ _ _ _ _ _ _ _ _ _ _ _ _ c.loop-i-test.true c.loop-i.invariant c.variable_pin-p.ensures (c.is_named_pin-named.ensures ∙ ap (names_pin _ _) c.variable_pin-p.ensures) c.push-n.ensures.0 c.push-n.ensures.1 c.weight_if-mask.ensures
-
-pub shape_of-vars : goal.shape_of-vars
-shape_of-vars c = c.loop-i.invariant.size ∙ sym c.requires.vars_len
 
 pub returns : goal.returns
 returns c = choosing_end _ _ _ _ _ _ _ _ c.loop-i-test.false c.loop-i.invariant

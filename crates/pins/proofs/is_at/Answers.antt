@@ -8,9 +8,3 @@ returns-then-row-j-eq1 c = simp (← c.is_remaining.ensures, c.if-is_remaining.t
 
 pub returns-then-at-p : goal.returns-then-at-p
 returns-then-at-p c = simp (← c.is_remaining.ensures, c.if-is_remaining.true, ← c.at.ensures, eq-eqb _ _ c.if-at-p.true, ← row_at (elements_of c.args.parts.now) _ _ _ c.requires.row_value c.requires.j_bound, ne_eqb _ _ c.if-row-j-eq1.false)
-
-pub returns-then-is_remaining : goal.returns-then-is_remaining
-returns-then-is_remaining c = simp (← c.is_remaining.ensures, c.if-is_remaining.true, ← c.at.ensures, ne_eqb _ _ c.if-at-p.false)
-
-pub returns : goal.returns
-returns c = simp (← c.is_remaining.ensures, c.if-is_remaining.false)

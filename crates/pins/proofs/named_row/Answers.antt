@@ -1,23 +1,10 @@
 use Rattle.basics.proofs.Folds.{listing_start, listing_more, listing_end}
 use Rattle.basics.specs.Choice.{bit}
 use mathlib.Core.Path.{refl, ap, ◌∙◌}
-use native.Mathlib.Omega.{arith}
 use Rattle.pins.proofs.named_row.Goals as goal
 
 pub loop-j-init : goal.loop-j-init
 loop-j-init c = listing_start _ _ _ refl
-
-pub is_named-requires : goal.is_named-requires
-is_named-requires c = record {
-  o_bound = c.requires;
-  j_bound = c.loop-j-test.true;
-}
-
-pub bounds-a-j : goal.bounds-a-j
-bounds-a-j c = omega (arith, c.loop-j-test.true)
-
-pub loop-j-smaller : goal.loop-j-smaller
-loop-j-smaller c = omega (arith, c.loop-j-test.true)
 
 pub loop-j-preserved : goal.loop-j-preserved
 loop-j-preserved c = listing_more _ _ _ _ _ c.loop-j-test.true c.loop-j.invariant (c.byte_of.ensures ∙ ap bit c.is_named.ensures)

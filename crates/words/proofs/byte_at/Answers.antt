@@ -1,5 +1,4 @@
 -- `words::byte_at` meets its contract.
-use borrow.Author.Rules.{rules}
 use mathlib.Core.Path.{sym}
 use lib.ListN.{get_or-eq_default}
 use Rattle.words.proofs.byte_at.Goals as goal

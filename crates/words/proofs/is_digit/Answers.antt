@@ -1,5 +1,3 @@
-use borrow.Author.Rules.{rules}
-use borrow.Author.Tests.{le-ltb, lt-ltb, le-leb, lt-leb, eq-eqb, ne_eqb}
 use Rattle.words.specs.Bytes.{is_digit}
 use Rattle.words.proofs.is_digit.Goals as goal
 

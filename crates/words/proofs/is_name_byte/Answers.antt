@@ -1,5 +1,3 @@
-use borrow.Author.Rules.{rules}
-use borrow.Author.Tests.{le-ltb, lt-ltb, le-leb, lt-leb, eq-eqb, ne_eqb}
 use Rattle.words.proofs.is_name_byte.Goals as goal
 
 pub returns-then-is_letter : goal.returns-then-is_letter

@@ -1,5 +1,4 @@
-use borrow.Author.Rules.{rules}
-use borrow.Author.Tests.{le-ltb, lt-ltb, le-leb, lt-leb, eq-eqb, ne_eqb}
+use borrow.Author.Tests.{eq-eqb, ne_eqb}
 use Rattle.words.specs.Words.{keyword_of}
 use Rattle.words.proofs.keyword.Goals as goal
 

@@ -1,10 +1,6 @@
-use borrow.Author.Rules.{rules}
 use native.Mathlib.Omega.{arith}
-use mathlib.Core.Path.{◌≡◌, refl, sym, ap, ◌∙◌}
-use mathlib.Core.List.{List}
-use Prim.Native.Nat.{ℕ, ◌+◌, ◌-◌, ◌*◌, ◌≤◌, ◌<◌}
-use lib.ListN.{length, get_or, drop}
-use Rattle.words.specs.Words.{value_of, capped}
+use mathlib.Core.Path.{refl, sym, ap, ◌∙◌}
+use Rattle.words.specs.Words.{capped}
 use Rattle.words.proofs.Laws.{value_stop, value_end}
 use Rattle.words.proofs.Values.{capped_held, digit_more}
 use Rattle.words.proofs.literal.Goals as goal

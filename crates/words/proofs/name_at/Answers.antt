@@ -3,7 +3,6 @@ use lib.ListN.{drop}
 use Rattle.words.specs.Bytes.{is_name_byte}
 use Rattle.words.proofs.Forward.{end_from}
 use lib.ListN.{get_or-eq_default}
-use borrow.Author.Rules.{rules}
 use borrow.Author.Tests.{le-ltb, lt-ltb, le-leb, lt-leb, eq-eqb, ne_eqb}
 use Rattle.words.specs.Words.{name_at}
 use Rattle.words.proofs.name_at.Goals as goal

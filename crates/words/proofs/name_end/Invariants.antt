@@ -1,12 +1,8 @@
-use borrow.Author.Rules.{rules}
-use native.Mathlib.Omega.{arith}
-use mathlib.Core.Path.{◌≡◌, refl, sym, ap, ◌∙◌}
-use mathlib.Core.Bool.{true, false}
-use Prim.Native.Nat.{ℕ, ◌+◌, ◌-◌, ◌*◌, ◌≤◌, ◌<◌}
-use lib.ListN.{length, get_or, drop}
+use mathlib.Core.Path.{◌≡◌}
+use Prim.Native.Nat.{◌-◌}
+use lib.ListN.{length, drop}
 use Rattle.words.specs.Bytes.{is_name_byte}
 use Rattle.words.specs.Words.{end_of}
-use Rattle.words.proofs.Laws.{end_stop, end_more, end_end}
 use Rattle.words.proofs.name_end.Given as goal
 
 abbrev pub invariant-loop-i : goal.invariant-loop-i

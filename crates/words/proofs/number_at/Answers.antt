@@ -1,6 +1,3 @@
-use borrow.Author.Rules.{rules}
-use borrow.Author.Tests.{le-ltb, lt-ltb, le-leb, lt-leb, eq-eqb, ne_eqb}
-use Rattle.words.specs.Words.{number_at}
 use Rattle.words.proofs.Values.{number_large, number_small}
 use Rattle.words.proofs.number_at.Goals as goal
 

@@ -1,12 +1,7 @@
-use borrow.Author.Rules.{rules}
-use native.Mathlib.Omega.{arith}
-use mathlib.Core.Path.{◌≡◌, refl, sym, ap, ◌∙◌}
-use mathlib.Core.Bool.{true, false}
-use Prim.Native.Nat.{ℕ, ◌+◌, ◌-◌, ◌*◌, ◌≤◌, ◌<◌}
-use lib.ListN.{length, get_or, drop}
-use Rattle.words.specs.Bytes.{turn_of}
+use mathlib.Core.Path.{◌≡◌}
+use Prim.Native.Nat.{◌-◌}
+use lib.ListN.{length, drop}
 use Rattle.words.specs.Words.{gap}
-use Rattle.words.proofs.Laws.{gap_stop, gap_more, gap_here, gap_cut}
 use Rattle.words.proofs.skip.Given as goal
 
 abbrev pub invariant-loop-i : goal.invariant-loop-i

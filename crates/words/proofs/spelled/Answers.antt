@@ -1,10 +1,4 @@
-use borrow.Author.Rules.{rules}
-use native.Mathlib.Omega.{arith}
-use mathlib.Core.Path.{◌≡◌, refl, sym, ap, subst, ◌∙◌}
-use mathlib.Core.Bool.{true, false}
-use Prim.Native.Nat.{ℕ, ◌+◌, ◌-◌, ◌*◌, ◌≤◌, ◌<◌}
-use lib.ListN.{length, get_or, drop}
-use Rattle.words.specs.Words.{prefixed}
+use mathlib.Core.Path.{sym, ◌∙◌}
 use Rattle.words.proofs.Laws.{prefixed_more, prefixed_not, prefixed_cut, prefixed_all}
 use Rattle.words.proofs.spelled.Goals as goal
 

@@ -1,11 +1,6 @@
 use borrow.Author.Tests.{lt-ltb, le-ltb, le-leb, lt-leb}
 use Rattle.fusefields.specs.Bytes.{hexit}
-use borrow.Author.Rules.{rules}
 use Rattle.fusefields.proofs.bytes.is_hexit.Goals as goal
-
-pub is_digit-requires : goal.is_digit-requires
-unfolding hexit
-is_digit-requires c = search rules
 
 pub returns-then-is_digit : goal.returns-then-is_digit
 unfolding hexit

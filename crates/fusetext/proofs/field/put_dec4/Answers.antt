@@ -1,5 +1,4 @@
 use Rattle.fusetext.specs.Digits.{dec4}
-use borrow.Author.Rules.{rules}
 use Rattle.fusetext.proofs.field.put_dec4.Goals as goal
 
 pub returns : goal.returns

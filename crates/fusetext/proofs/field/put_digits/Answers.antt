@@ -1,14 +1,10 @@
 -- `fusetext::field::put_digits` meets its contract. Invariant: what is still to be written, written at `o`, gives what the whole written at `at` gives. Assumes nothing.
-use mathlib.Core.Path.{◌≡◌, refl, sym, ap, ◌∙◌}
-use Prim.Native.Nat.{ℕ, ◌+◌, ◌-◌, ◌≤◌}
+use mathlib.Core.Path.{refl, sym}
 use native.Mathlib.Nat.{add-zero}
-use native.Mathlib.Numerals.{add-one}
 use native.Mathlib.Omega.{arith}
-use lib.ListN.{length, get_or, drop, length-set}
+use lib.ListN.{length-set}
 use Rattle.fusetext.proofs.Files.{digits_next, digits_none, length_digits}
 use Rattle.fusetext.proofs.Puts.{put_turn, put_done}
-use Rattle.fusetext.specs.File.{digits}
-use Rattle.fusetext.specs.Put.{put}
 use Rattle.fusetext.proofs.field.put_digits.Goals as goal
 
 pub loop-j-init : goal.loop-j-init

@@ -1,11 +1,6 @@
-use mathlib.Core.Path.{◌≡◌, refl, sym, ap, ◌∙◌}
-use Prim.Native.Nat.{ℕ, ◌+◌, ◌-◌, ◌≤◌}
-use native.Mathlib.Nat.{add-zero}
-use native.Mathlib.Numerals.{add-one}
-use native.Mathlib.Omega.{arith}
-use lib.ListN.{length, get_or, drop, length-set}
-use Rattle.fusetext.proofs.Files.{digits_next, digits_none, length_digits}
-use Rattle.fusetext.proofs.Puts.{put_turn, put_done}
+use mathlib.Core.Path.{◌≡◌}
+use Prim.Native.Nat.{◌+◌, ◌-◌, ◌≤◌}
+use lib.ListN.{length, drop}
 use Rattle.fusetext.specs.File.{digits}
 use Rattle.fusetext.specs.Put.{put}
 use Rattle.fusetext.proofs.field.put_digits.Given as goal

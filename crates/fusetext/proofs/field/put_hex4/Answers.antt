@@ -1,6 +1,5 @@
 use Rattle.fusetext.proofs.Puts.{wrote_as}
 use Rattle.fusetext.specs.Digits.{hex4}
-use borrow.Author.Rules.{rules}
 use Rattle.fusetext.proofs.field.put_hex4.Goals as goal
 
 pub returns : goal.returns

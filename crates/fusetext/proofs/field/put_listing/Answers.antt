@@ -3,7 +3,6 @@ use Rattle.fusetext.proofs.Files.{length_digits}
 use Rattle.fusetext.proofs.Puts.{then}
 use Rattle.fusetext.specs.Digits.{dec4}
 use Rattle.fusetext.specs.File.{listing}
-use borrow.Author.Rules.{rules}
 use Rattle.fusetext.proofs.field.put_listing.Goals as goal
 
 pub put_text-c-requires : goal.put_text-c-requires
@@ -13,8 +12,8 @@ put_text-c-requires c = omega arith
 pub put_digits-d-requires : goal.put_digits-d-requires
 unfolding dec4
 put_digits-d-requires c = record {
-    src_in_bounds = omega arith;
-    bits = c.requires.bits;
+  src_in_bounds = omega arith;
+  bits = c.requires.bits;
 }
 
 pub put_text-requires : goal.put_text-requires

@@ -1,13 +1,10 @@
 -- `fusetext::field::put_text` meets its contract. Invariant: what is still to be written, written at `o`, gives what the whole written at `at` gives. Assumes nothing.
-use mathlib.Core.Path.{◌≡◌, refl, sym, ap, ◌∙◌}
-use Prim.Native.Nat.{ℕ, ◌+◌, ◌-◌, ◌≤◌}
+use mathlib.Core.Path.{refl, sym}
 use native.Mathlib.Nat.{add-zero}
-use native.Mathlib.Numerals.{add-one}
 use native.Mathlib.Omega.{arith}
-use lib.ListN.{length, get_or, drop, length-set, drop_of_length-le}
+use lib.ListN.{length-set, drop_of_length-le}
 use Rattle.basics.proofs.Lists.{drop_next}
 use Rattle.fusetext.proofs.Puts.{put_turn, put_done}
-use Rattle.fusetext.specs.Put.{put}
 use Rattle.fusetext.proofs.field.put_text.Goals as goal
 
 pub loop-i-init : goal.loop-i-init

@@ -1,10 +1,7 @@
 use native.Mathlib.Omega.{arith}
-use mathlib.Core.Path.{◌≡◌, refl, sym, ap, ◌∙◌}
-use Prim.Native.Nat.{ℕ, ◌+◌, ◌-◌, ◌*◌, ◌≤◌}
-use lib.ListN.{length, get_or, drop}
+use mathlib.Core.Path.{sym, ◌∙◌}
 use borrow.Author.Tests.{lt-leb, le-leb}
 use Rattle.fusetext.proofs.Files.{bits_next, bits_none}
-use Rattle.fusetext.specs.File.{bits}
 use Rattle.fusetext.proofs.scan.is_bits.Goals as goal
 
 pub returns-then-s-j-gt1 : goal.returns-then-s-j-gt1

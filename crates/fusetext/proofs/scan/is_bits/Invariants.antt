@@ -1,9 +1,6 @@
-use native.Mathlib.Omega.{arith}
-use mathlib.Core.Path.{◌≡◌, refl, sym, ap, ◌∙◌}
-use Prim.Native.Nat.{ℕ, ◌+◌, ◌-◌, ◌*◌, ◌≤◌}
-use lib.ListN.{length, get_or, drop}
-use borrow.Author.Tests.{lt-leb, le-leb}
-use Rattle.fusetext.proofs.Files.{bits_next, bits_none}
+use mathlib.Core.Path.{◌≡◌}
+use Prim.Native.Nat.{◌-◌, ◌≤◌}
+use lib.ListN.{length, drop}
 use Rattle.fusetext.specs.File.{bits}
 use Rattle.fusetext.proofs.scan.is_bits.Given as goal
 

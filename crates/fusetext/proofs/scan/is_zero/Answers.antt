@@ -1,10 +1,7 @@
 use native.Mathlib.Omega.{arith}
-use mathlib.Core.Path.{◌≡◌, refl, sym, ap, ◌∙◌}
-use Prim.Native.Nat.{ℕ, ◌+◌, ◌-◌, ◌*◌, ◌≤◌}
-use lib.ListN.{length, get_or, drop}
+use mathlib.Core.Path.{sym, ◌∙◌}
 use borrow.Author.Tests.{eq-eqb, ne_eqb}
 use Rattle.fusetext.proofs.Files.{zeros_next, zeros_none}
-use Rattle.fusetext.specs.File.{zeros}
 use Rattle.fusetext.proofs.scan.is_zero.Goals as goal
 
 pub returns-then-s-j-ne0 : goal.returns-then-s-j-ne0

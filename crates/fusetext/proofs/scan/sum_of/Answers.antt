@@ -1,9 +1,5 @@
 use native.Mathlib.Omega.{arith}
-use mathlib.Core.Path.{◌≡◌, refl, sym, ap, ◌∙◌}
-use Prim.Native.Nat.{ℕ, ◌+◌, ◌-◌, ◌*◌, ◌≤◌}
-use lib.ListN.{length, get_or, drop}
 use Rattle.fusetext.proofs.Files.{sum_next, sum_none}
-use Rattle.fusetext.specs.File.{sum}
 use Rattle.fusetext.proofs.scan.sum_of.Goals as goal
 
 pub loop-j-preserved : goal.loop-j-preserved

@@ -1,8 +1,6 @@
-use native.Mathlib.Omega.{arith}
-use mathlib.Core.Path.{◌≡◌, refl, sym, ap, ◌∙◌}
-use Prim.Native.Nat.{ℕ, ◌+◌, ◌-◌, ◌*◌, ◌≤◌}
-use lib.ListN.{length, get_or, drop}
-use Rattle.fusetext.proofs.Files.{sum_next, sum_none}
+use mathlib.Core.Path.{◌≡◌}
+use Prim.Native.Nat.{◌+◌, ◌-◌, ◌*◌, ◌≤◌}
+use lib.ListN.{length, drop}
 use Rattle.fusetext.specs.File.{sum}
 use Rattle.fusetext.proofs.scan.sum_of.Given as goal
 

@@ -1,9 +1,6 @@
 -- `fusetext::scan::weigh_of` meets its contract: the fuses are weighed one by one. Assumes nothing.
 use native.Mathlib.Omega.{arith}
-use mathlib.Core.Path.{◌≡◌, refl, sym, ap, ◌∙◌}
-use Prim.Native.Nat.{ℕ, ◌+◌, ◌-◌, ◌*◌, ◌≤◌}
-use lib.ListN.{length, get_or, drop}
-use Rattle.fusetext.proofs.Weights.{weigh, weigh_one, weigh_zero, weigh_none, weigh_map}
+use Rattle.fusetext.proofs.Weights.{weigh_one, weigh_zero, weigh_none, weigh_map}
 use Rattle.fusetext.proofs.scan.weigh_of.Goals as goal
 
 pub loop-j-preserved-then-s-k-eq1 : goal.loop-j-preserved-then-s-k-eq1

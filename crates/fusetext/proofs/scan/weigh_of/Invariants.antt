@@ -1,8 +1,7 @@
-use native.Mathlib.Omega.{arith}
-use mathlib.Core.Path.{◌≡◌, refl, sym, ap, ◌∙◌}
-use Prim.Native.Nat.{ℕ, ◌+◌, ◌-◌, ◌*◌, ◌≤◌}
-use lib.ListN.{length, get_or, drop}
-use Rattle.fusetext.proofs.Weights.{weigh, weigh_one, weigh_zero, weigh_none, weigh_map}
+use mathlib.Core.Path.{◌≡◌}
+use Prim.Native.Nat.{◌+◌, ◌-◌, ◌*◌, ◌≤◌}
+use lib.ListN.{length, drop}
+use Rattle.fusetext.proofs.Weights.{weigh}
 use Rattle.fusetext.proofs.scan.weigh_of.Given as goal
 
 abbrev pub invariant-loop-j : goal.invariant-loop-j

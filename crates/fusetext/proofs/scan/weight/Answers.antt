@@ -1,8 +1,6 @@
 -- `fusetext::scan::weight` meets its contract: the table holds the powers of two. Assumes nothing.
-use mathlib.Core.Path.{◌≡◌, refl}
-use Prim.Native.Nat.{ℕ, ◌%◌}
+use Prim.Native.Nat.{◌%◌}
 use native.Mathlib.Omega.{arith}
-use borrow.Author.Rules.{rules}
 use Rattle.fusetext.proofs.Weights.{weights, weights_are, weights_le}
 use Rattle.fusetext.proofs.scan.weight.Goals as goal
 
