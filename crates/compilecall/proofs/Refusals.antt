@@ -3,7 +3,7 @@ use mathlib.Core.Path.{◌≡◌, ap, ◌∙◌, subst}
 use mathlib.Core.List.{List}
 use Prim.Native.Nat.{ℕ}
 use lib.ListN.{length}
-use Rattle.fusetext.specs.Outcome.{gives, refuses}
+use Rattle.fusetext.specs.Outcome.{gives}
 use Rattle.texts.specs.Calls.{compiled_of}
 use Rattle.compilecall.specs.declared.Compiled.{Compiled}
 use Rattle.compilecall.specs.declared.Compiled.TheVariants.{File, Refused}
