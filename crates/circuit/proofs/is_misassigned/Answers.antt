@@ -20,4 +20,4 @@ returns-then-c-eq3 c =
 pub returns : goal.returns
 unfolding misassigned
 returns c =
-    simp (ne_eqb _ _ c.if-c-eq3.false, ne_eqb _ _ c.if-c-eq2.false, ← c.is_not-fault.ensures, ne_eqb _ _ c.if-c-eq1.false, ← c.at-n.ensures, ← c.class_of-c.ensures)
+    simp (ne_eqb _ _ c.if-c-eq3.false, ne_eqb _ _ c.if-c-eq2.false, ne_eqb _ _ c.if-c-eq1.false, ← c.at-n.ensures, ← c.class_of-c.ensures)

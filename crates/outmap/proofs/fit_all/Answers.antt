@@ -1,25 +1,10 @@
-use lib.ListN.{length, replicate}
-use mathlib.Core.List.{List}
-use Prim.Native.Nat.{ℕ, ◌≤◌}
 use Rattle.outmap.proofs.Turns.{turned_start, turned_more, turned_end, refuses, lets_pass, stopped}
 use Rattle.trees.specs.Layout.{elements_of}
-use mathlib.Core.Path.{◌≡◌, refl, sym, ap, ◌∙◌, subst}
-use native.Mathlib.Omega.{arith}
+use mathlib.Core.Path.{refl, ◌∙◌}
 use Rattle.outmap.proofs.fit_all.Goals as goal
 
 pub loop-i-init : goal.loop-i-init
 loop-i-init c = (refl, turned_start _ _ _ _ c.requires.all_value c.requires.counts_value c.requires.s0s_value)
-
-pub take_out-number-requires : goal.take_out-number-requires
-take_out-number-requires c = record {
-  parts_value = c.requires.parts_value;
-  i_bound = c.loop-i-test.true;
-  in_bounds = subst (λ (l : List ℕ). 59049 ≤ length l) (sym c.loop-i.invariant.0) c.requires.in_bounds;
-  room_value = subst (λ (l : List ℕ). l ≡ replicate (length l) 0) (sym c.loop-i.invariant.0) c.requires.room_value;
-}
-
-pub shape_of-room-then-number-ne0 : goal.shape_of-room-then-number-ne0
-shape_of-room-then-number-ne0 c = ap length (c.take_out-number.ensures.room_unchanged ∙ c.loop-i.invariant.0)
 
 pub returns-then-number-ne0 : goal.returns-then-number-ne0
 returns-then-number-ne0 c = record {
@@ -28,14 +13,8 @@ returns-then-number-ne0 c = record {
   fitting = stopped _ _ _ _ _ _ (refuses (elements_of c.args.parts.now) _ _ _ c.loop-i-test.true c.loop-i.invariant.1.none c.take_out-number.ensures.value c.if-number-ne0.true c.at.ensures);
 }
 
-pub loop-i-smaller : goal.loop-i-smaller
-loop-i-smaller c = let l = c.loop-i-test.true in omega (arith, l)
-
 pub loop-i-preserved : goal.loop-i-preserved
 loop-i-preserved c = (c.take_out-number.ensures.room_unchanged ∙ c.loop-i.invariant.0, turned_more (elements_of c.args.parts.now) _ _ _ _ _ _ _ _ c.requires.parts_value c.loop-i-test.true c.loop-i.invariant.1 c.take_out-number.ensures.value c.if-number-ne0.false c.take_out-number.ensures.all_after c.take_out-number.ensures.counts_after c.take_out-number.ensures.s0s_after)
-
-pub shape_of-room : goal.shape_of-room
-shape_of-room c = ap length c.loop-i.invariant.0
 
 pub returns : goal.returns
 returns c = record {

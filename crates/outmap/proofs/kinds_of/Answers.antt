@@ -1,20 +1,10 @@
 use Rattle.outmap.proofs.Filling.{ten_listed}
 use Rattle.basics.proofs.Folds.{listing_start, listing_more, listing_end}
 use mathlib.Core.Path.{refl, ◌∙◌}
-use native.Mathlib.Omega.{arith}
 use Rattle.outmap.proofs.kinds_of.Goals as goal
 
 pub loop-k-init : goal.loop-k-init
 loop-k-init c = listing_start _ _ _ refl
-
-pub kind_of-requires : goal.kind_of-requires
-kind_of-requires c = c.loop-k-test.true
-
-pub bounds-a-k : goal.bounds-a-k
-bounds-a-k c = let l = c.loop-k-test.true in omega arith
-
-pub loop-k-smaller : goal.loop-k-smaller
-loop-k-smaller c = let l = c.loop-k-test.true in omega arith
 
 pub loop-k-preserved : goal.loop-k-preserved
 loop-k-preserved c = listing_more _ _ _ _ _ c.loop-k-test.true c.loop-k.invariant c.kind_of.ensures

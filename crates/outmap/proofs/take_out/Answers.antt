@@ -18,15 +18,6 @@ returns-then-class_of-ne2 c = record {
   s0s_after = left_out (elements_of c.args.parts.now) c.args.i _ _ (no_out (elements_of c.args.parts.now) c.args.i (λ z. c.if-class_of-ne2.true (c.class_of.ensures ∙ z))).1;
 }
 
-pub try_out-t-requires : goal.try_out-t-requires
-try_out-t-requires c = record {
-  parts_value = c.requires.parts_value;
-  o_bound = c.requires.i_bound;
-  o_value = (sym c.class_of.ensures ∙ c.if-class_of-ne2.false);
-  in_bounds = c.requires.in_bounds;
-  room_value = c.requires.room_value;
-}
-
 pub returns-then-number-ne0 : goal.returns-then-number-ne0
 returns-then-number-ne0 c = record {
   value = number_is (elements_of c.args.parts.now) c.args.i _ (sym c.class_of.ensures ∙ c.if-class_of-ne2.false) c.try_out-t.ensures.value;

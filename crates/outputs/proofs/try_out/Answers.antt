@@ -31,12 +31,6 @@ fit_table-requires c = record {
   in_bounds = c.requires.in_bounds;
 }
 
-pub returns-in-Table : goal.returns-in-Table
-returns-in-Table c = record {
-  value = c.fit_table.ensures.value;
-  room_unchanged = c.fit_table.ensures.room_after ∙ sym c.requires.room_value;
-}
-
 pub returns-in-TooMany : goal.returns-in-TooMany
 returns-in-TooMany c = record {
   value = c.many.ensures ∙ tried_many (elements_of c.args.parts.now) c.args.o (not_table (elements_of c.args.parts.now) true c.args.o _ (ap seen (sym c.in-TooMany.is) ∙ c.rows_table.ensures.0));

@@ -6,11 +6,5 @@ use mathlib.Core.Bool.{Bool}
 use mathlib.Core.Path.{ap, ◌∙◌}
 use Rattle.tables.proofs.entry.Goals as goal
 
-pub result-requires : goal.result-requires
-result-requires c = record {
-  o_bound = c.requires.o_bound;
-  vals_value = c.all_values-vals.ensures;
-}
-
 pub returns : goal.returns
 returns c = c.result.ensures ∙ ap (outcome (elements_of c.args.parts.now) c.args.rows c.args.o) (c.pins_of-pins.ensures ∙ ap (λ (f : ℕ → Bool). set_bits f f c.args.vars.now c.args.k) (flips_are _ _ _ c.requires.flips_value))

@@ -1,20 +1,10 @@
 use Rattle.basics.proofs.Folds.{listing_start, listing_more, listing_end}
 use Rattle.basics.specs.Choice.{bit}
 use mathlib.Core.Path.{refl, ap, ◌∙◌}
-use native.Mathlib.Omega.{arith}
 use Rattle.tables.proofs.flips.Goals as goal
 
 pub loop-p-init : goal.loop-p-init
 loop-p-init c = listing_start _ _ _ refl
-
-pub is_flipped-requires : goal.is_flipped-requires
-is_flipped-requires c = c.loop-p-test.true
-
-pub bounds-a-p : goal.bounds-a-p
-bounds-a-p c = omega (arith, c.loop-p-test.true)
-
-pub loop-p-smaller : goal.loop-p-smaller
-loop-p-smaller c = omega (arith, c.loop-p-test.true)
 
 pub loop-p-preserved : goal.loop-p-preserved
 loop-p-preserved c = listing_more _ _ _ _ _ c.loop-p-test.true c.loop-p.invariant (c.byte_of.ensures ∙ ap bit c.is_flipped.ensures)

@@ -12,6 +12,3 @@ fill-requires c = record {
   o_bound = c.requires.o_bound;
   size_in_bounds = c.requires.size_in_bounds;
 }
-
-pub returns : goal.returns
-returns c = c.fill.ensures
