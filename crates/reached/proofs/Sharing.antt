@@ -7,7 +7,7 @@ use mathlib.Core.List.{List}
 use Prim.Native.Nat.{ℕ, zero, suc, ◌<◌, ◌≤◌}
 use native.Mathlib.Omega.{arith}
 use lib.Dec.{eqb, ltb}
-use borrow.Author.Tests.{eqb-true, eqb-false, not-true, not_false, ltb-true, ltb-false, le-ltb}
+use borrow.Author.Tests.{eqb-true, eqb-false, not-true, not-false, ltb-true, ltb-false, le-ltb}
 use Rattle.basics.specs.Choice.{pick}
 use Rattle.basics.specs.Below.{any_below}
 use Rattle.basics.proofs.Truth.{true_of, of_true, and_l, and_r}
@@ -87,7 +87,7 @@ module _ (l : List ℕ) (r : Pinned l) (i : ℕ) (h : i < 64) where
       go false true c q = refl
       go false false true q = refl
       go false false false q =
-          let role : role_of (pin l i) ≡ class_of l i = eqb-true (role_of (pin l i)) (class_of l i) (not_false (eqb (role_of (pin l i)) (class_of l i)) q) in
+          let role : role_of (pin l i) ≡ class_of l i = eqb-true (role_of (pin l i)) (class_of l i) (not-false (eqb (role_of (pin l i)) (class_of l i)) q) in
           let range = role_range (pin l i) (λ z. n (sym role ∙ z)) in
           either range.0 range.1 (eqb (given l (pin l i)) 1) refl
 
