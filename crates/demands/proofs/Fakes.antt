@@ -22,11 +22,11 @@ use Rattle.demands.proofs.Example.{compile_T}
 use Rattle.basics.specs.Below.{listed}
 use Rattle.trees.specs.Layout.{nodes_at, class_of}
 use Rattle.trees.specs.Machine.{run, value_of as trees-valueOf}
-use Rattle.reach.specs.Uses.{from_end, inverts, registers, names, replaced, remains}
+use Rattle.reach.specs.Uses.{from_end, inverts, registers, replaced, remains}
 use Rattle.circuit.specs.StageFive.{first_below}
 use Rattle.meaning.specs.Circuit.{out_at, shows, clocked, run_from}
 use Rattle.meaning.specs.Meaning.{value, shows_next}
-use Rattle.texts.specs.Calls.{lent, compiled_of}
+use Rattle.texts.specs.Calls.{compiled_of}
 use Rattle.texts.specs.Meaning.{meaning}
 use Rattle.basics.specs.Choice.{pick}
 use Rattle.gal.specs.Model.{runs as modelRuns}

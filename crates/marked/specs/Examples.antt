@@ -22,7 +22,7 @@ use Rattle.texts.specs.Meaning.{Meaning, means, nothing, meaning}
 abbrev pub ones : List (ℕ → Bool)
 ones = (λ p. true) ∷ []
 
--- what the text's circuit shows on pin 23 in these cycles from power_up; or the refusal's number and place
+-- what the text's circuit shows on pin 23 in these cycles from power-up; or the refusal's number and place
 abbrev pub shown_by : List (ℕ → Bool) → Meaning → List ℕ
 shown_by inputs (means c) = map (λ (f : ℕ → Bool). bit (f 23)) (runs c inputs)
 shown_by inputs (nothing n p) = n ∷ p ∷ []
