@@ -1,4 +1,4 @@
--- Demand 2 over a module's elements: the model of the map, run from power_up, shows what the module's circuit shows. Assumes nothing.
+-- Demand 2 over a module's elements: the model of the map, run from power-up, shows what the module's circuit shows. Assumes nothing.
 use mathlib.Core.Path.{◌≡◌, refl, sym, ap, ap₂, ◌∙◌}
 use mathlib.Core.Bool.{Bool, true, false, not, ◌&&◌, ◌||◌}
 use mathlib.Core.List.{List, [], ◌∷◌, map}

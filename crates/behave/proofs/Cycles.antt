@@ -1,4 +1,4 @@
--- The model of the emitted map, run from power_up, answers cycle after cycle as the cells' functions do.
+-- The model of the emitted map, run from power-up, answers cycle after cycle as the cells' functions do.
 -- Assumes nothing.
 use mathlib.Core.Path.{◌≡◌, refl, ap, ap₂, ◌∙◌}
 use mathlib.Core.Bool.{Bool, true, false, not, ◌&&◌, ◌||◌}
@@ -69,7 +69,7 @@ module _ (c : Cells) (all : List (List ℕ)) (counts kinds s0s : List ℕ) (w : 
       ∙ ap (λ (l : List Answer). answer_of c bits (setting_for c bits pins) ∷ l)
       (from g rest (listed (λ b. bit (next_of c (setting_for c bits pins) b)) 10) e.1 (next-taken (setting_for c bits pins)))
 
-  -- THE THEOREM: from power_up, for every list of pin values that may be given
+  -- THE THEOREM: from power-up, for every list of pin values that may be given
   pub cycles : Grounded c → (inputs : List (List ℕ)) → Each (λ pins. refused_pins c pins ≡ false) inputs → runs (map_of all counts kinds s0s) inputs ≡ cycles_of c (replicate 10 0) inputs
   unfolding runs
   cycles g inputs e = from g inputs (replicate 10 0) e none-taken

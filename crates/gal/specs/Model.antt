@@ -1,5 +1,5 @@
 -- The model (document 01, "The device"): a map, ten register bits and twenty-four pin values to a refusal, or to the pins shown, their values and the
--- registers after the clock; and the model run from power_up.
+-- registers after the clock; and the model run from power-up.
 -- Assumes nothing.
 use Rattle.std.specs.Prelude.{List, [], ◌∷◌, ℕ, replicate}
 use Rattle.basics.specs.Choice.{pick}
@@ -37,6 +37,6 @@ unfoldable pub run_from : List ℕ → List ℕ → List (List ℕ) → List Ans
 run_from m bits [] = []
 run_from m bits (pins ∷ rest) = modelled m bits pins ∷ run_from m (modelled m bits pins).next rest
 
--- from power_up: registers hold 0
+-- from power-up: registers hold 0
 unfoldable pub runs : List ℕ → List (List ℕ) → List Answer
 runs m inputs = run_from m (replicate 10 0) inputs

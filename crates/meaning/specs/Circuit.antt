@@ -1,4 +1,4 @@
--- A circuit: what stands at each OUT pin, and what it shows, cycle by cycle from power_up (document 01, "The language we take": registers start
+-- A circuit: what stands at each OUT pin, and what it shows, cycle by cycle from power-up (document 01, "The language we take": registers start
 -- at '0). Assumes nothing.
 use Rattle.std.specs.Prelude.{◌≡◌, Bool, false, ◌&&◌, List, [], ◌∷◌, ℕ, eqb, ltb}
 use Rattle.basics.specs.Choice.{pick, xor}
@@ -49,7 +49,7 @@ unfoldable pub run_from : Circuit → (ℕ → Bool) → List (ℕ → Bool) →
 run_from c q [] = []
 run_from c q (ins ∷ later) = shows c ins q ∷ run_from c (clocked c ins q) later
 
--- from power_up every register holds 0
+-- from power-up every register holds 0
 abbrev pub runs : Circuit → List (ℕ → Bool) → List (ℕ → Bool)
 runs c = run_from c (λ p. false)
 
