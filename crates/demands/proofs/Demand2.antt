@@ -33,7 +33,7 @@ pub record Carries (s file : List ℕ) : Type 0 where
   -- the file, read back, gives a map of fuses
   pub fuses : List ℕ
   pub reads_back : read_of file ≡ gives fuses
-  -- for every list of settings of the caller's pins, one for each cycle from power_up: the model of that map refuses nothing, shows just the OUT
+  -- for every list of settings of the caller's pins, one for each cycle from power-up: the model of that map refuses nothing, shows just the OUT
   -- pins, and shows on each of them in each cycle what the circuit shows
   pub cycles : (inputs : List (ℕ → Bool)) → map seen (modelRuns fuses (map (setting_for circuit) inputs)) ≡ map (seen_of circuit) (runs circuit inputs)
   -- and no input is left out: values that the model takes for the pins are those of a setting
