@@ -218,9 +218,9 @@ module _ (e : Elements) (ok : Passed e) where
 
   -- ---- the whole answer
 
-  answer-is : (ins q : ℕ → Bool) → Held q → modelled (map_for e) (bits_for q) (pins_for e ins) ≡ answer_of (cells_of e) (bits_for q) (setting_for (cells_of e) (bits_for q) (pins_for e ins))
+  answer_is : (ins q : ℕ → Bool) → Held q → modelled (map_for e) (bits_for q) (pins_for e ins) ≡ answer_of (cells_of e) (bits_for q) (setting_for (cells_of e) (bits_for q) (pins_for e ins))
   unfolding map_for no_values
-  answer-is ins q r =
+  answer_is ins q r =
       behaves (cells_of e) (masks_of e) (counts_of e) (kinds_of e) (s0s_of e) (fits e ok) (grounded e ok) (bits_for q) (pins_for e ins)
       (λ i. pins-right ins i || bits-right q r i)
 
@@ -230,13 +230,13 @@ module _ (e : Elements) (ok : Passed e) where
       let s = setting_for (cells_of e) (bits_for q) (pins_for e ins) in
       let a = listed_same (λ i. bit (shown_of c (i + 1))) (λ i. bit ((circuit_of e).out (i + 1))) 24 (λ i h. ap bit (use_under (i + 1))) in
       let b = listed_same (λ i. bit (value_of c (bits_for q) s (i + 1))) (λ i. bit (shows (circuit_of e) ins q (i + 1))) 24 (λ i h. ap bit (shows-at ins q (i + 1))) in
-      ap seen (answer-is ins q r) ∙ (λ i. record { verdict = Shown; shown = a i; values = b i })
+      ap seen (answer_is ins q r) ∙ (λ i. record { verdict = Shown; shown = a i; values = b i })
 
   pub next_held : (ins q : ℕ → Bool) → Held q → (modelled (map_for e) (bits_for q) (pins_for e ins)).next ≡ bits_for (clocked (circuit_of e) ins q)
   unfolding bits_for
   next_held ins q r =
       let s = setting_for (cells_of e) (bits_for q) (pins_for e ins) in
-      ap (λ (a : Answer). a.next) (answer-is ins q r)
+      ap (λ (a : Answer). a.next) (answer_is ins q r)
       ∙ listed_same (λ b. bit (next_of (cells_of e) s b)) (λ b. bit (clocked (circuit_of e) ins q (14 + b))) 10
       (λ b h.
       let y : 9 - b ≡ 23 - (14 + b) = omega arith in

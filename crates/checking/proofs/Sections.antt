@@ -13,7 +13,7 @@ use Rattle.words.specs.Words.{next_word}
 use Rattle.grammar.specs.Outcome.{Outcome, ok, no, more, last, on_word, and_then}
 use Rattle.grammar.specs.Grammar.{closed}
 use Rattle.grammar.specs.Trees.{checks}
-use Rattle.grammar.specs.Modules.{must, repeated, constantTurn, nameTurn, nameList, listTurn}
+use Rattle.grammar.specs.Modules.{must, repeated, constant_turn, name_turn, name_list, list_turn}
 use Rattle.grammar.specs.Forms.{blank}
 use Rattle.grammar.proofs.Turns.{repeat_more, repeat_falls, repeat_last, past_constant, past_name, past_list}
 
@@ -22,46 +22,46 @@ Check = Outcome (Unit {0}) (Unit {0})
 
 module _ (s : List ℕ) (at : ℕ) where
   abbrev pub named : Check
-  named = repeated checks blank s (nameTurn checks blank s) tt at tt
+  named = repeated checks blank s (name_turn checks blank s) tt at tt
 
-  pub name_falls : (e : ℕ) → nameTurn checks blank s tt at tt ≡ more tt e tt → length s - e < length s - at
-  name_falls e h = repeat_falls s (nameTurn checks blank s) (past_name checks blank s) tt tt at e tt tt h
+  pub name_falls : (e : ℕ) → name_turn checks blank s tt at tt ≡ more tt e tt → length s - e < length s - at
+  name_falls e h = repeat_falls s (name_turn checks blank s) (past_name checks blank s) tt tt at e tt tt h
 
-  pub name_more : (e : ℕ) → nameTurn checks blank s tt at tt ≡ more tt e tt → named ≡ repeated checks blank s (nameTurn checks blank s) tt e tt
-  name_more e h = repeat_more s (nameTurn checks blank s) (past_name checks blank s) tt tt at e tt tt h
+  pub name_more : (e : ℕ) → name_turn checks blank s tt at tt ≡ more tt e tt → named ≡ repeated checks blank s (name_turn checks blank s) tt e tt
+  name_more e h = repeat_more s (name_turn checks blank s) (past_name checks blank s) tt tt at e tt tt h
 
-  pub name_last : (r : Check) → nameTurn checks blank s tt at tt ≡ last r → named ≡ r
-  name_last r h = repeat_last s (nameTurn checks blank s) (past_name checks blank s) tt at tt r h
+  pub name_last : (r : Check) → name_turn checks blank s tt at tt ≡ last r → named ≡ r
+  name_last r h = repeat_last s (name_turn checks blank s) (past_name checks blank s) tt at tt r h
 
   abbrev pub valued : Check
-  valued = repeated checks blank s (constantTurn checks blank s) tt at tt
+  valued = repeated checks blank s (constant_turn checks blank s) tt at tt
 
-  pub constant_falls : (e : ℕ) → constantTurn checks blank s tt at tt ≡ more tt e tt → length s - e < length s - at
-  constant_falls e h = repeat_falls s (constantTurn checks blank s) (past_constant checks blank s) tt tt at e tt tt h
+  pub constant_falls : (e : ℕ) → constant_turn checks blank s tt at tt ≡ more tt e tt → length s - e < length s - at
+  constant_falls e h = repeat_falls s (constant_turn checks blank s) (past_constant checks blank s) tt tt at e tt tt h
 
-  pub constant_more : (e : ℕ) → constantTurn checks blank s tt at tt ≡ more tt e tt → valued ≡ repeated checks blank s (constantTurn checks blank s) tt e tt
-  constant_more e h = repeat_more s (constantTurn checks blank s) (past_constant checks blank s) tt tt at e tt tt h
+  pub constant_more : (e : ℕ) → constant_turn checks blank s tt at tt ≡ more tt e tt → valued ≡ repeated checks blank s (constant_turn checks blank s) tt e tt
+  constant_more e h = repeat_more s (constant_turn checks blank s) (past_constant checks blank s) tt tt at e tt tt h
 
-  pub constant_last : (r : Check) → constantTurn checks blank s tt at tt ≡ last r → valued ≡ r
-  constant_last r h = repeat_last s (constantTurn checks blank s) (past_constant checks blank s) tt at tt r h
+  pub constant_last : (r : Check) → constant_turn checks blank s tt at tt ≡ last r → valued ≡ r
+  constant_last r h = repeat_last s (constant_turn checks blank s) (past_constant checks blank s) tt at tt r h
 
 module _ (s : List ℕ) (c at : ℕ) where
   abbrev pub listed : Check
-  listed = repeated checks blank s (listTurn checks blank s c) tt at tt
+  listed = repeated checks blank s (list_turn checks blank s c) tt at tt
 
-  pub list_falls : (e : ℕ) → listTurn checks blank s c tt at tt ≡ more tt e tt → length s - e < length s - at
-  list_falls e h = repeat_falls s (listTurn checks blank s c) (past_list checks blank s c) tt tt at e tt tt h
+  pub list_falls : (e : ℕ) → list_turn checks blank s c tt at tt ≡ more tt e tt → length s - e < length s - at
+  list_falls e h = repeat_falls s (list_turn checks blank s c) (past_list checks blank s c) tt tt at e tt tt h
 
-  pub list_more : (e : ℕ) → listTurn checks blank s c tt at tt ≡ more tt e tt → listed ≡ repeated checks blank s (listTurn checks blank s c) tt e tt
-  list_more e h = repeat_more s (listTurn checks blank s c) (past_list checks blank s c) tt tt at e tt tt h
+  pub list_more : (e : ℕ) → list_turn checks blank s c tt at tt ≡ more tt e tt → listed ≡ repeated checks blank s (list_turn checks blank s c) tt e tt
+  list_more e h = repeat_more s (list_turn checks blank s c) (past_list checks blank s c) tt tt at e tt tt h
 
-  pub list_last : (r : Check) → listTurn checks blank s c tt at tt ≡ last r → listed ≡ r
-  list_last r h = repeat_last s (listTurn checks blank s c) (past_list checks blank s c) tt at tt r h
+  pub list_last : (r : Check) → list_turn checks blank s c tt at tt ≡ last r → listed ≡ r
+  list_last r h = repeat_last s (list_turn checks blank s c) (past_list checks blank s c) tt at tt r h
 
 -- names with commas between them, from past the first
-pub name_list : (s : List ℕ) (st e : ℕ) → nameList checks blank s st e tt ≡ named s e
-unfolding nameList
-name_list s st e = refl
+pub name_list_lem : (s : List ℕ) (st e : ℕ) → name_list checks blank s st e tt ≡ named s e
+unfolding name_list
+name_list_lem s st e = refl
 
 abbrev Headed : Type 0
 Headed = Outcome (Unit {0}) (ℕ × ℕ)

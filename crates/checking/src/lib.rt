@@ -5,7 +5,7 @@ ghost use Rattle.std.specs.Prelude.{◌≡◌};
 ghost use Rattle.grammar.specs.Outcome.{levels};
 ghost use Rattle.grammar.specs.Grammar.{nested, part};
 ghost use Rattle.grammar.specs.Trees.{checks};
-ghost use Rattle.grammar.specs.Modules.{repeated, constantTurn, anotherName, nameTurn, nameList, arrayed, typed, type_of, listTurn, constants, lists, outAndVar, declarations, begun, headed, sameName, ended, headless};
+ghost use Rattle.grammar.specs.Modules.{repeated, constant_turn, another_name, name_turn, name_list, arrayed, typed, type_of, list_turn, constants, lists, out_and_var, declarations, begun, headed, same_name, ended, headless};
 ghost use Rattle.grammar.specs.Forms.{blank, checked_text};
 ghost use Rattle.phrases.specs.Seen.{seen_end, seen_go};
 ghost use Rattle.checking.specs.Seen.{seen_body, seen_head, seen_text};
@@ -50,7 +50,7 @@ pub enum Checked {
 
 // A constant.
 fn constant_turn(text: &[u8], from: Cursor) -> Go
-    ensures { seen_go result ≡ constantTurn checks blank text.now tt from.at tt }
+    ensures { seen_go result ≡ constant_turn checks blank text.now tt from.at tt }
 {
     match from.next(text) {
         Taken::Word {
@@ -74,7 +74,7 @@ fn constant_turn(text: &[u8], from: Cursor) -> Go
 
 // Behind a comma of a list: one name more.
 fn another_name(text: &[u8], from: Cursor) -> Go
-    ensures { seen_go result ≡ anotherName checks blank text.now tt from.at tt }
+    ensures { seen_go result ≡ another_name checks blank text.now tt from.at tt }
 {
     match from.next(text) {
         Taken::Word {
@@ -97,7 +97,7 @@ fn another_name(text: &[u8], from: Cursor) -> Go
 
 // Behind a name of a list.
 fn name_turn(text: &[u8], from: Cursor) -> Go
-    ensures { seen_go result ≡ nameTurn checks blank text.now tt from.at tt }
+    ensures { seen_go result ≡ name_turn checks blank text.now tt from.at tt }
 {
     match from.next(text) {
         Taken::Word {
@@ -117,7 +117,7 @@ fn name_turn(text: &[u8], from: Cursor) -> Go
 
 // Names with commas between them, from past the first.
 fn name_list(text: &[u8], start: usize, end: Cursor) -> Ended
-    ensures { seen_end result ≡ nameList checks blank text.now start end.at tt }
+    ensures { seen_end result ≡ name_list checks blank text.now start end.at tt }
 {
     let mut at = end.at;
     loop {
@@ -192,7 +192,7 @@ fn list_type(text: &[u8], from: Cursor) -> Ended
 
 // A list of names of a class, of one type.
 fn list_turn(text: &[u8], class: u8, from: Cursor) -> Go
-    ensures { seen_go result ≡ listTurn checks blank text.now class tt from.at tt }
+    ensures { seen_go result ≡ list_turn checks blank text.now class tt from.at tt }
 {
     match from.next(text) {
         Taken::Word {
@@ -219,7 +219,7 @@ fn list_turn(text: &[u8], class: u8, from: Cursor) -> Go
 
 // The constants of a section.
 fn constant_list(text: &[u8], from: Cursor) -> Ended
-    ensures { seen_end result ≡ repeated checks blank text.now (constantTurn checks blank text.now) tt from.at tt }
+    ensures { seen_end result ≡ repeated checks blank text.now (constant_turn checks blank text.now) tt from.at tt }
 {
     let mut at = from.at;
     loop {
@@ -235,7 +235,7 @@ fn constant_list(text: &[u8], from: Cursor) -> Ended
 
 // The lists of a section of a class.
 fn signal_lists(text: &[u8], class: u8, from: Cursor) -> Ended
-    ensures { seen_end result ≡ repeated checks blank text.now (listTurn checks blank text.now class) tt from.at tt }
+    ensures { seen_end result ≡ repeated checks blank text.now (list_turn checks blank text.now class) tt from.at tt }
 {
     let mut at = from.at;
     loop {
@@ -291,7 +291,7 @@ fn signal_section(text: &[u8], class: u8, from: Cursor) -> Ended
 
 // OUT and VAR.
 fn out_and_var(text: &[u8], from: Cursor) -> Ended
-    ensures { seen_end result ≡ outAndVar checks blank text.now tt from.at tt }
+    ensures { seen_end result ≡ out_and_var checks blank text.now tt from.at tt }
 {
     match signal_section(text, 210, from) {
         Ended::Past { next } => signal_section(text, 211, next),
@@ -378,7 +378,7 @@ fn heading(text: &[u8], from: Cursor) -> Head
 
 // The module's name again.
 fn name_again(text: &[u8], start: usize, end: usize, from: Cursor) -> Ended
-    ensures { seen_end result ≡ sameName checks blank text.now start end from.at tt }
+    ensures { seen_end result ≡ same_name checks blank text.now start end from.at tt }
 {
     match from.next(text) {
         Taken::Word {

@@ -1,5 +1,5 @@
 -- Where REG may stand: at the top of an OUT's equation, or under one ~ there (document 01, "The language we take", refusal 8). On trees, and on
--- their nodes; the two agree (laws `Plain-Flat`, `placed_flat`). Brackets leave no node. Assumes nothing.
+-- their nodes; the two agree (laws `plain_flat`, `placed_flat`). Brackets leave no node. Assumes nothing.
 use Rattle.std.specs.Prelude.{Bool, true, false, not, ◌&&◌, ◌||◌, List, [], ◌∷◌, ℕ, eqb}
 use Rattle.trees.specs.Tree.{Tree}
 use Rattle.trees.specs.Tree.Tree.{name, low, high, neg, conj, disj, differ, mux, reg, held}

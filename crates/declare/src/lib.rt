@@ -8,7 +8,7 @@ ghost use Rattle.names.specs.Names.{held};
 ghost use Rattle.grammar.specs.Outcome.{and_then};
 ghost use Rattle.lists.specs.Lists.{type_of};
 ghost use Rattle.simple.specs.Statements.{upward};
-ghost use Rattle.declare.specs.Declarations.{seen_made, seen_turn, with_constant, width_of, constantEnd, constantFrom, constant_of, element_name, elementTurn, elements_of, listEnd, signals_of, item_of, itemTurn, items_of, sectionOf, declarationsOf};
+ghost use Rattle.declare.specs.Declarations.{seen_made, seen_turn, with_constant, width_of, constant_end, constant_from, constant_of, element_name, element_turn, elements_of, list_end, signals_of, item_of, item_turn, items_of, section_of, declarations_of};
 
 use integers::Num;
 use judging::Read;
@@ -48,7 +48,7 @@ fn end_constant(
     value: Num,
     from: Cursor,
 ) -> Made
-    ensures { (seen_made result room.new ≡ constantEnd text.now names.now start end (num value) from.at (room.old, count)) × (result.table.top ≤ 640) }
+    ensures { (seen_made result room.new ≡ constant_end text.now names.now start end (num value) from.at (room.old, count)) × (result.table.top ≤ 640) }
 {
     match from.next(text) {
         Taken::Word {
@@ -101,7 +101,7 @@ fn value_constant(
     start: usize,
     end: Cursor,
 ) -> Made
-    ensures { (seen_made result room.new ≡ constantFrom text.now names.now start end.at (room.old, count)) × (result.table.top ≤ 640) }
+    ensures { (seen_made result room.new ≡ constant_from text.now names.now start end.at (room.old, count)) × (result.table.top ≤ 640) }
 {
     match end.next(text) {
         Taken::Word {
@@ -250,7 +250,7 @@ fn element_turn(
     from: Cursor,
 ) -> Made
     requires { table.top ≤ 640 }
-    ensures { (seen_turn result room.new ≡ elementTurn text.now class n (held table) from.at (room.old, count)) × (result.table.top ≤ 640) }
+    ensures { (seen_turn result room.new ≡ element_turn text.now class n (held table) from.at (room.old, count)) × (result.table.top ≤ 640) }
 {
     match from.next(text) {
         Taken::Word {
@@ -335,7 +335,7 @@ fn end_list(
     from: Cursor,
 ) -> Made
     requires { table.top ≤ 640 }
-    ensures { (seen_made result room.new ≡ listEnd text.now class (held table) start (num length) from.at (room.old, count)) × (result.table.top ≤ 640) }
+    ensures { (seen_made result room.new ≡ list_end text.now class (held table) start (num length) from.at (room.old, count)) × (result.table.top ≤ 640) }
 {
     match from.next(text) {
         Taken::Word {
@@ -408,7 +408,7 @@ fn type_list(
     from: Cursor,
 ) -> Made
     requires { table.top ≤ 640 }
-    ensures { (seen_made result room.new ≡ and_then (type_of text.now (held table) from.at (room.old, count)) (listEnd text.now class (held table) start)) × (result.table.top ≤ 640) }
+    ensures { (seen_made result room.new ≡ and_then (type_of text.now (held table) from.at (room.old, count)) (list_end text.now class (held table) start)) × (result.table.top ≤ 640) }
 {
     let top = table.top;
     let words = table.words;
@@ -492,7 +492,7 @@ fn item_turn(
     from: Cursor,
 ) -> Made
     requires { table.top ≤ 640 }
-    ensures { (seen_turn result room.new ≡ itemTurn text.now class (held table) from.at (room.old, count)) × (result.table.top ≤ 640) }
+    ensures { (seen_turn result room.new ≡ item_turn text.now class (held table) from.at (room.old, count)) × (result.table.top ≤ 640) }
 {
     match from.next(text) {
         Taken::Word {
@@ -575,7 +575,7 @@ fn section(
     from: Cursor,
 ) -> Made
     requires { table.top ≤ 640 }
-    ensures { (seen_made result room.new ≡ sectionOf text.now class (held table) from.at (room.old, count)) × (result.table.top ≤ 640) }
+    ensures { (seen_made result room.new ≡ section_of text.now class (held table) from.at (room.old, count)) × (result.table.top ≤ 640) }
 {
     match from.next(text) {
         Taken::Word {
@@ -609,7 +609,7 @@ fn section(
 
 // The declarations of a module, behind its heading.
 pub fn declare(text: &[u8], room: &mut [u32], count: usize, from: Cursor) -> Made
-    ensures { (seen_made result room.new ≡ declarationsOf text.now from.at (room.old, count)) × (result.table.top ≤ 640) }
+    ensures { (seen_made result room.new ≡ declarations_of text.now from.at (room.old, count)) × (result.table.top ≤ 640) }
 {
     let mut names = names::none();
     let mut at = from.at;

@@ -66,11 +66,11 @@ compile_carries text out room n x y c = go (compiled_of text (length out) (lengt
     is_file (File k) = Unit {0}
     is_file (Refused k p) = ⊥
 
-    lengthIn : Compiled → ℕ
-    lengthIn (File k) = k
-    lengthIn (Refused k p) = 0
+    length_in : Compiled → ℕ
+    length_in (File k) = k
+    length_in (Refused k p) = 0
 
     go : (o : Outcome) → compiled_of text (length out) (length room) ≡ o → File n ≡ compiled_as o → x ≡ left o out → Carries text (take n x)
     go (gives f) e a l =
-        subst (Carries text) (sym (ap (λ (k : ℕ). take k x) (ap lengthIn a) ∙ ap (take (length f)) l ∙ take_at f (drop (length f) out) (length f) refl)) (demand2 text f (length out) (length room) e)
+        subst (Carries text) (sym (ap (λ (k : ℕ). take k x) (ap length_in a) ∙ ap (take (length f)) l ∙ take_at f (drop (length f) out) (length f) refl)) (demand2 text f (length out) (length room) e)
     go (refuses k p) e a l = absurd (subst is_file a tt)

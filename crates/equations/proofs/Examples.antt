@@ -12,7 +12,7 @@ use Rattle.integers.specs.Integers.{fitted, divided, left_over, powered, combine
 use Rattle.names.specs.Names.{spelling, same_bytes, same, number_of, find, entry, entries, looked_up}
 use Rattle.trees.specs.Tree.{Tree, name, low, high, disj, differ, mux}
 use Rattle.grammar.specs.Outcome.{Outcome, ok, no, Built, built, bad}
-use Rattle.grammar.specs.Grammar.{index_sort, part_sort, closed, turn, chain, level, part, dotted, bracketed, pointed, named, muxThird, muxSecond, muxed, kept, regged, inverted, factor, term, expression, nested}
+use Rattle.grammar.specs.Grammar.{index_sort, part_sort, closed, turn, chain, level, part, dotted, bracketed, pointed, named, mux_third, mux_second, muxed, kept, regged, inverted, factor, term, expression, nested}
 use Rattle.grammar.specs.Trees.{parsed}
 use Rattle.grammar.specs.Trees as syntax
 use Rattle.judging.specs.Judging.{meaning_of, mark_of, literal_of, logic_of, plain_of, opened_of, element_of, operator_of}
@@ -64,5 +64,5 @@ meant_at words at = meant_on (text words) (parsed (text words) 32 at)
 pub examples_read : (map (λ (r : Example). r.found) examples ≡ map (λ (r : Example). r.expected) examples)
     × (meant_at "MUX('0: '1, '0)" 0 ≡ built (pos 0, mux low high low) tt)
     × (meant_at "a v N a+v.0-v.1" 6 ≡ built (pos 0, differ (disj (name 3) (name 8)) (name 9)) tt)
-unfolding is_blank is_letter is_digit is_single is_pair turn_of gap end_of prefixed of_two of_three of_four of_five of_six keyword_of wordNamed name_at value_of number_at pair_kind pair_at logic_at form_at word_at next_word fitted divided left_over powered combined spelling same_bytes same number_of find entry entries looked_up index_sort part_sort closed turn chain level part dotted bracketed pointed named muxThird muxSecond muxed kept regged inverted factor term expression nested meaning_of mark_of literal_of logic_of plain_of opened_of element_of operator_of emitted
+unfolding is_blank is_letter is_digit is_single is_pair turn_of gap end_of prefixed of_two of_three of_four of_five of_six keyword_of wordNamed name_at value_of number_at pair_kind pair_at logic_at form_at word_at next_word fitted divided left_over powered combined spelling same_bytes same number_of find entry entries looked_up index_sort part_sort closed turn chain level part dotted bracketed pointed named mux_third mux_second muxed kept regged inverted factor term expression nested meaning_of mark_of literal_of logic_of plain_of opened_of element_of operator_of emitted
 examples_read = (refl, refl, refl)

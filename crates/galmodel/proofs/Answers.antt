@@ -26,9 +26,9 @@ sized m e = go (eqb (length m) 5892) refl e
     go true q z = eqb-true (length m) 5892 q
     go false q z = absurd (clash z)
 
-pub answer-is : (m bits pins sig a b n : List ℕ) → sig ≡ signals m bits pins → a ≡ shown_pins m → b ≡ value_pins m bits sig → n ≡ next_bits m sig
+pub answer_is : (m bits pins sig a b n : List ℕ) → sig ≡ signals m bits pins → a ≡ shown_pins m → b ≡ value_pins m bits sig → n ≡ next_bits m sig
     → ◌≡◌ {A = Answer} (record { verdict = Shown; shown = a; values = b; next = n }) (answered m bits pins)
-answer-is m bits pins sig a b n es ea eb en = λ i. record { verdict = Shown; shown = ea i; values = (eb ∙ ap (value_pins m bits) es) i; next = (en ∙ ap (next_bits m) es) i }
+answer_is m bits pins sig a b n es ea eb en = λ i. record { verdict = Shown; shown = ea i; values = (eb ∙ ap (value_pins m bits) es) i; next = (en ∙ ap (next_bits m) es) i }
 
 -- two answers that both keep the promise are one
 pub one_answer : (m bits pins : List ℕ) (r s : Answer) → r ≡ modelled m bits pins → s ≡ modelled m bits pins → r ≡ s

@@ -8,7 +8,7 @@ use Rattle.grammar.specs.Outcome.{Outcome, ok, no, Turn, more, last, on_word, an
 use Rattle.grammar.specs.Grammar.{closed}
 use Rattle.grammar.specs.Modules.{word_turn, repeat}
 use Rattle.judging.specs.Reading.{State}
-use Rattle.readers.specs.Readers.{expressionOf}
+use Rattle.readers.specs.Readers.{expression_of}
 use Rattle.lists.specs.declared.Walk.{Walk}
 use Rattle.lists.specs.declared.Walk.TheVariants.{On, End, Off}
 use Rattle.lists.specs.declared.Came.{Came}
@@ -75,7 +75,7 @@ abbrev pub length_on : List ℕ → ℕ → ℤ → ℕ → State → Outcome St
 length_on s p z e y = pick (is_length z) (closed_type s z e y) (no 5 p y)
 
 unfoldable pub length_of : List ℕ → List ℕ → ℕ → State → Outcome State ℤ
-length_of s t at x = on_word x (next_word s at) (λ k p v nx. and_then (expressionOf s t levels 1 at x) (length_on s p))
+length_of s t at x = on_word x (next_word s at) (λ k p v nx. and_then (expression_of s t levels 1 at x) (length_on s p))
 
 -- a type: 0 for BIT, else the length
 unfoldable pub type_of : List ℕ → List ℕ → ℕ → State → Outcome State ℤ

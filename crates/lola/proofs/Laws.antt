@@ -4,7 +4,7 @@ use mathlib.Core.List.{List}
 use Prim.Native.Nat.{ℕ, ◌-◌, ◌≤◌}
 use lib.ListN.{length, take, drop, replicate}
 use Rattle.judging.specs.Reading.{State}
-use Rattle.declare.specs.Declarations.{declarationsOf}
+use Rattle.declare.specs.Declarations.{declarations_of}
 use Rattle.declare.proofs.Laws.{lent_whole}
 use Rattle.texts.specs.Stages.{Front, fourth, declared, third}
 
@@ -14,6 +14,6 @@ pub table_lent : (s : List ℕ) (at : ℕ) (l : List ℕ) (n : ℕ) (x : State) 
 table_lent s at l n x f e h q = q ∙ ap (λ (t : List ℕ). fourth s at t x) (lent_whole l (drop n l) n e h refl)
 
 -- memory of zeros
-pub from_zeros : (s : List ℕ) (a b : ℕ) (parts : List ℕ) (f : Front) → parts ≡ replicate 2588 0 → f ≡ declared s b (declarationsOf s a (parts, 0)) → f ≡ third s a b
+pub from_zeros : (s : List ℕ) (a b : ℕ) (parts : List ℕ) (f : Front) → parts ≡ replicate 2588 0 → f ≡ declared s b (declarations_of s a (parts, 0)) → f ≡ third s a b
 unfolding third
-from_zeros s a b parts f z q = q ∙ ap (λ (l : List ℕ). declared s b (declarationsOf s a (l, 0))) z
+from_zeros s a b parts f z q = q ∙ ap (λ (l : List ℕ). declared s b (declarations_of s a (l, 0))) z

@@ -3,7 +3,7 @@
 
 ghost use Rattle.std.specs.Prelude.{◌≡◌, ℕ, ◌≤◌, replicate};
 ghost use Rattle.names.specs.Names.{held};
-ghost use Rattle.declare.specs.Declarations.{declarationsOf};
+ghost use Rattle.declare.specs.Declarations.{declarations_of};
 ghost use Rattle.texts.specs.Stages.{fifth, fourth, declared, second, front_of};
 ghost use Rattle.lola.specs.Telling.{seen_front};
 
@@ -60,7 +60,7 @@ fn unroll_table(text: &[u8], table: Table, parts: &mut [u32], count: usize, from
 
 // Stage 3, the declarations from a place on; behind them the statements from a place on.
 fn declare_from(text: &[u8], parts: &mut [u32], from: Cursor, body: Cursor) -> Told
-    ensures { seen_front result parts.new ≡ declared text.now body.at (declarationsOf text.now from.at (parts.old, 0)) }
+    ensures { seen_front result parts.new ≡ declared text.now body.at (declarations_of text.now from.at (parts.old, 0)) }
 {
     let made = declare::declare(text, parts, 0, from);
     if made.mode == 0 {

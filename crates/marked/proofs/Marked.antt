@@ -7,15 +7,15 @@ use Rattle.words.specs.Bytes.{is_blank, is_letter, is_digit, is_single, is_pair,
 use Rattle.words.specs.Words.{gap, end_of, prefixed, of_two, of_three, of_four, of_five, of_six, keyword_of, named, name_at, value_of, number_at, pair_kind, pair_at, logic_at, form_at, word_at, next_word}
 use Rattle.integers.specs.Integers.{fitted, divided, left_over, powered, combined, rounds_of}
 use Rattle.names.specs.Names.{spelling, same_bytes, alike, same, number_of, find, entry, entries, looked_up, extended}
-use Rattle.grammar.specs.Grammar.{index_sort, part_sort, closed, turn, chain, level, dotted, pointed, part, bracketed, named as grammar-named, muxThird, muxSecond, muxed, kept, regged, inverted, factor, term, expression, nested}
-use Rattle.grammar.specs.Modules.{repeat, up_to, given, numberTurn, numbers, positioned, aimed, simple, statement, statementTurn, statements, looped, ranged, forFrom, for_of, constantTurn, anotherName, nameTurn, nameList, arrayed, typed, type_of, listTurn, constants, lists, outAndVar, declarations, begun, headed, sameName, ended, headless, wholeText}
+use Rattle.grammar.specs.Grammar.{index_sort, part_sort, closed, turn, chain, level, dotted, pointed, part, bracketed, named as grammar-named, mux_third, mux_second, muxed, kept, regged, inverted, factor, term, expression, nested}
+use Rattle.grammar.specs.Modules.{repeat, up_to, given, number_turn, numbers, positioned, aimed, simple, statement, statement_turn, statements, looped, ranged, for_from, for_of, constant_turn, another_name, name_turn, name_list, arrayed, typed, type_of, list_turn, constants, lists, out_and_var, declarations, begun, headed, same_name, ended, headless, whole_text}
 use Rattle.judging.specs.Judging.{meaning_of, mark_of, literal_of, logic_of, plain_of, opened_of, element_of, operator_of}
 use Rattle.judging.specs.Reading.{emitted}
 use Rattle.parts.specs.Parts.{raised, noted, allows, one_more, declared_from, assigned_in, positioned_in, miscounted_from}
-use Rattle.simple.specs.Statements.{target_of, assignmentOf, numberTurn as simple-numberTurn, numbersOf, list_of, one_of, position_of, actOf, simpleOf}
+use Rattle.simple.specs.Statements.{target_of, assignment_of, number_turn as simple-numberTurn, numbers_of, list_of, one_of, position_of, act_of, simple_of}
 use Rattle.lists.specs.Lists.{back_turn, back_of, fresh_name, fresh_turn, fresh_of, closed_type, length_of, type_of as lists-typeOf}
-use Rattle.declare.specs.Declarations.{element_name, constantEnd, constantFrom, constant_of, elementTurn, elements_of, listEnd, signals_of, item_of, itemTurn, items_of, sectionOf, sectionsOf, declarationsOf}
-use Rattle.unroll.specs.Loops.{pass_turn, passed_of, upperOf, lowerOf, range_of, headerOf, roundOf, turnsOf, loop_of, forFrom as unroll-forFrom, statementTurn as unroll-statementTurn, statementsWith, for_of as unroll-forOf}
+use Rattle.declare.specs.Declarations.{element_name, constant_end, constant_from, constant_of, element_turn, elements_of, list_end, signals_of, item_of, item_turn, items_of, section_of, sections_of, declarations_of}
+use Rattle.unroll.specs.Loops.{pass_turn, passed_of, upper_of, lower_of, range_of, header_of, round_of, turns_of, loop_of, for_from as unroll-forFrom, statement_turn as unroll-statementTurn, statements_with, for_of as unroll-forOf}
 use Rattle.trees.specs.Layout.{nodes_at, class_of}
 use Rattle.trees.specs.Machine.{run, value_of as trees-valueOf}
 use Rattle.trees.specs.Runs.{first_in, end_in}
@@ -68,5 +68,5 @@ asked_O product =
 
 -- THE THEOREM: what the definitions find is what is expected, for every row of the table.
 pub marked_examples : AllFit examples
-unfolding any_below all_below tally listed is_blank is_letter is_digit is_single is_pair turn_of gap end_of prefixed of_two of_three of_four of_five of_six keyword_of named name_at value_of number_at pair_kind pair_at logic_at form_at word_at next_word fitted divided left_over powered combined rounds_of spelling same_bytes alike same number_of find entry entries looked_up extended index_sort part_sort closed turn chain level dotted pointed part bracketed grammar-named muxThird muxSecond muxed kept regged inverted factor term expression nested repeat up_to given numberTurn numbers positioned aimed simple statement statementTurn statements looped ranged forFrom for_of constantTurn anotherName nameTurn nameList arrayed typed type_of listTurn constants lists outAndVar declarations begun headed sameName ended headless wholeText meaning_of mark_of literal_of logic_of plain_of opened_of element_of operator_of emitted raised noted allows one_more declared_from assigned_in positioned_in miscounted_from target_of assignmentOf simple-numberTurn numbersOf list_of one_of position_of actOf simpleOf back_turn back_of fresh_name fresh_turn fresh_of closed_type length_of lists-typeOf element_name constantEnd constantFrom constant_of elementTurn elements_of listEnd signals_of item_of itemTurn items_of sectionOf sectionsOf declarationsOf pass_turn passed_of upperOf lowerOf range_of headerOf roundOf turnsOf loop_of unroll-forFrom unroll-statementTurn statementsWith unroll-forOf nodes_at class_of run trees-valueOf first_in end_in tops eval flat top_below meets via marked from_end inverts registers keeps names replaced remains writes uses role_of plain topped placed plain_n placed_n misassigned misplaced positioned_right mispositioned first_below stage_five out_at shows clocked run_from value shows_next settle_all order_of named_in mentions names_pin variable_pin column_of chosen mask_below flip_at set_bits tabled table_in keep spread count columns before covers imp drops any filter prime verdict expand products primes factors digits number drops_n grade_n question_table asked_of asked lent called meaning is_given setting_for fifth fourth third second front_of parts_O
+unfolding any_below all_below tally listed is_blank is_letter is_digit is_single is_pair turn_of gap end_of prefixed of_two of_three of_four of_five of_six keyword_of named name_at value_of number_at pair_kind pair_at logic_at form_at word_at next_word fitted divided left_over powered combined rounds_of spelling same_bytes alike same number_of find entry entries looked_up extended index_sort part_sort closed turn chain level dotted pointed part bracketed grammar-named mux_third mux_second muxed kept regged inverted factor term expression nested repeat up_to given number_turn numbers positioned aimed simple statement statement_turn statements looped ranged for_from for_of constant_turn another_name name_turn name_list arrayed typed type_of list_turn constants lists out_and_var declarations begun headed same_name ended headless whole_text meaning_of mark_of literal_of logic_of plain_of opened_of element_of operator_of emitted raised noted allows one_more declared_from assigned_in positioned_in miscounted_from target_of assignment_of simple-numberTurn numbers_of list_of one_of position_of act_of simple_of back_turn back_of fresh_name fresh_turn fresh_of closed_type length_of lists-typeOf element_name constant_end constant_from constant_of element_turn elements_of list_end signals_of item_of item_turn items_of section_of sections_of declarations_of pass_turn passed_of upper_of lower_of range_of header_of round_of turns_of loop_of unroll-forFrom unroll-statementTurn statements_with unroll-forOf nodes_at class_of run trees-valueOf first_in end_in tops eval flat top_below meets via marked from_end inverts registers keeps names replaced remains writes uses role_of plain topped placed plain_n placed_n misassigned misplaced positioned_right mispositioned first_below stage_five out_at shows clocked run_from value shows_next settle_all order_of named_in mentions names_pin variable_pin column_of chosen mask_below flip_at set_bits tabled table_in keep spread count columns before covers imp drops any filter prime verdict expand products primes factors digits number drops_n grade_n question_table asked_of asked lent called meaning is_given setting_for fifth fourth third second front_of parts_O
 marked_examples = more refl (more refl (more refl (more refl (more refl (more refl (more refl (more refl (more refl (more (ap graded (asked_O 4)) (more (ap graded (asked_O 7)) (more refl (more refl (more refl (more refl none))))))))))))))

@@ -7,7 +7,7 @@ use Rattle.sums.specs.Product.{Digit, primes, factors}
 use Rattle.engine.specs.Table.{function}
 use Rattle.grammar.specs.Outcome.{Outcome, ok, no, levels}
 use Rattle.judging.specs.Reading.{State}
-use Rattle.readers.specs.Readers.{expressionOf}
+use Rattle.readers.specs.Readers.{expression_of}
 use Rattle.trees.specs.Layout.{Elements, elements_of}
 use Rattle.meaning.specs.Circuit.{out_at, runs}
 use Rattle.pins.specs.Variables.{count_of}
@@ -37,7 +37,7 @@ signed (ok (negsuc n) at x) = 1 ∷ suc n ∷ []
 signed (no n p x) = n ∷ p ∷ []
 
 abbrev pub number : String → List ℕ
-number s = signed (expressionOf (text s) [] levels 1 0 ([], 0))
+number s = signed (expression_of (text s) [] levels 1 0 ([], 0))
 
 -- all primes of the function of pin 23's OUT
 abbrev pub sum_for : Elements → List (List Digit)

@@ -13,7 +13,7 @@ use Rattle.grammar.specs.Trees.{checks}
 use Rattle.grammar.proofs.Related.{Any, RelB, RelO, rel_named, rel_expression, rel_nested}
 use Rattle.judging.specs.Judging.{Verdict, number, mark_of, literal_of, logic_of, plain_of, opened_of, element_of, operator_of}
 use Rattle.judging.specs.Reading.{State, done, based, reads}
-use Rattle.readers.specs.Readers.{inner_of, index_of, expressionOf}
+use Rattle.readers.specs.Readers.{inner_of, index_of, expression_of}
 
 module _ (x₀ : State) where
   -- the state is left as it was
@@ -117,13 +117,13 @@ module _ (x₀ : State) where
 
 module _ (s t : List ℕ) (d : ℕ) (x : State) where
   module _ (at : ℕ) where
-    pub expression_past : (w : ℤ) (e : ℕ) (y : State) → ok w e y ≡ expressionOf s t d 0 at x → ok tt e tt ≡ expression checks s (nested checks s d) 0 at tt
+    pub expression_past : (w : ℤ) (e : ℕ) (y : State) → ok w e y ≡ expression_of s t d 0 at x → ok tt e tt ≡ expression checks s (nested checks s d) 0 at tt
     expression_past w e y q =
-        past_end x w e y (expressionOf s t d 0 at x) (expression checks s (nested checks s d) 0 at tt) (zero-expression x s t d at) q
+        past_end x w e y (expression_of s t d 0 at x) (expression checks s (nested checks s d) 0 at tt) (zero-expression x s t d at) q
 
-    pub expression_refused : (n p : ℕ) (y : State) → no n p y ≡ expressionOf s t d 0 at x → no n p tt ≡ expression checks s (nested checks s d) 0 at tt
+    pub expression_refused : (n p : ℕ) (y : State) → no n p y ≡ expression_of s t d 0 at x → no n p tt ≡ expression checks s (nested checks s d) 0 at tt
     expression_refused n p y q =
-        refused_end x n p y (expressionOf s t d 0 at x) (expression checks s (nested checks s d) 0 at tt) (zero-expression x s t d at) q
+        refused_end x n p y (expression_of s t d 0 at x) (expression checks s (nested checks s d) 0 at tt) (zero-expression x s t d at) q
 
   module _ (p₀ at : ℕ) where
     pub inner_past : (w : ℤ) (e : ℕ) (y : State) → ok w e y ≡ inner_of s t d false 0 p₀ at x → ok tt e tt ≡ nested checks s d false 0 p₀ at tt

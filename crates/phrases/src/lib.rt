@@ -4,7 +4,7 @@
 ghost use Rattle.std.specs.Prelude.{◌≡◌, false};
 ghost use Rattle.grammar.specs.Grammar.{expression, named, nested};
 ghost use Rattle.grammar.specs.Trees.{checks};
-ghost use Rattle.grammar.specs.Modules.{must, up_to, given, numberTurn, numbers, positioned, aimed, simple, statement, statementTurn, statements, looped, ranged, forFrom, for_of};
+ghost use Rattle.grammar.specs.Modules.{must, up_to, given, number_turn, numbers, positioned, aimed, simple, statement, statement_turn, statements, looped, ranged, for_from, for_of};
 ghost use Rattle.grammar.specs.Forms.{blank, checked_statements};
 ghost use Rattle.phrases.specs.Seen.{seen_end, seen_go};
 
@@ -131,7 +131,7 @@ pub fn give(text: &[u8], kind: u8, from: Cursor, depth: usize) -> Ended
 
 // A number of the position list that opens at a place, and the word behind it.
 fn number_turn(text: &[u8], place: usize, from: Cursor, depth: usize) -> Go
-    ensures { seen_go result ≡ numberTurn checks blank text.now depth place tt from.at tt }
+    ensures { seen_go result ≡ number_turn checks blank text.now depth place tt from.at tt }
 {
     match within(text, place, from, depth) {
         Ended::Past { next } => match next.next(text) {
@@ -257,7 +257,7 @@ fn one_statement(text: &[u8], from: Cursor, depth: usize) -> Ended
 // A statement, and the `;` that another one follows.
 #[cycle(phrasing)]
 fn statement_turn(text: &[u8], from: Cursor, depth: usize) -> Go
-    ensures { seen_go result ≡ statementTurn checks blank text.now depth (for_of checks blank text.now depth) tt from.at tt }
+    ensures { seen_go result ≡ statement_turn checks blank text.now depth (for_of checks blank text.now depth) tt from.at tt }
 {
     match one_statement(text, from, depth) {
         Ended::Past { next } => match next.next(text) {
@@ -330,7 +330,7 @@ fn for_range(text: &[u8], place: usize, start: usize, end: Cursor, depth: usize)
 // Behind the FOR at a place, with so many levels left within it.
 #[cycle(phrasing)]
 fn for_name(text: &[u8], place: usize, from: Cursor, depth: usize) -> Ended
-    ensures { seen_end result ≡ forFrom checks blank text.now depth (statements checks blank text.now depth (for_of checks blank text.now depth)) place from.at tt }
+    ensures { seen_end result ≡ for_from checks blank text.now depth (statements checks blank text.now depth (for_of checks blank text.now depth)) place from.at tt }
 {
     match from.next(text) {
         Taken::Word {

@@ -23,10 +23,10 @@ use Rattle.grammar.specs.Modules.{then_turn, word_turn, repeat}
 use Rattle.grammar.proofs.Related.{RelO}
 use Rattle.judging.specs.Judging.{Meaning, valued, signal, nothing, meaning_of}
 use Rattle.judging.specs.Reading.{State, emitted}
-use Rattle.readers.specs.Readers.{index_of, expressionOf}
+use Rattle.readers.specs.Readers.{index_of, expression_of}
 use Rattle.equations.proofs.Still.{Kept, Alike, still_expression}
 use Rattle.parts.specs.Parts.{used_at, allows, one_more, assigned_in, positioned_in, miscounted_from}
-use Rattle.simple.specs.Statements.{Target, element, missed, target_on, upward, target_of, assignmentOf, gaveOf, numberTurn, numbersOf, countedOf, list_of, one_of, position_of, placed_of, behindOf, actOf, simpleOf}
+use Rattle.simple.specs.Statements.{Target, element, missed, target_on, upward, target_of, assignment_of, gave_of, number_turn, numbers_of, counted_of, list_of, one_of, position_of, placed_of, behind_of, act_of, simple_of}
 use Rattle.declare.specs.Declarations.{width_of}
 use Rattle.reached.proofs.Unbounded as free
 use Rattle.reached.proofs.Rounds.{next_up}
@@ -137,7 +137,7 @@ module _ (s t : List ℕ) (d : ℕ) (fair : AllFair t) where
       let e : nextℤ v ≡ pos (c.many + 1) = ap nextℤ c.says ∙ next_up c.many (omega arith) in
       subst (λ (w : ℤ). i < upward w) (sym e) (omega arith)
 
-  gave-same : (g : Bool) (f : ℕ) (v z : ℤ) (y : State) → g ≡ false → gaveOf s t d g f v z y ≡ y
+  gave-same : (g : Bool) (f : ℕ) (v z : ℤ) (y : State) → g ≡ false → gave_of s t d g f v z y ≡ y
   gave-same true f v z y e = absurd (clash e)
   gave-same false f v z y e = refl
 
@@ -149,22 +149,22 @@ module _ (s t : List ℕ) (d : ℕ) (fair : AllFair t) where
     abbrev Ran : ℤ → State → Type 0
     Ran v y = (i < upward v) × (g ≡ false → y ≡ x)
 
-    number-turn : (n : ℕ) (v : ℤ) (at : ℕ) (y : State) → Going (suc n) v y → BothT (Going n) Ran (numberTurn s t d g f v at y) (free.numberTurn s t d g f v at y)
-    unfolding numberTurn free.numberTurn
+    number-turn : (n : ℕ) (v : ℤ) (at : ℕ) (y : State) → Going (suc n) v y → BothT (Going n) Ran (number_turn s t d g f v at y) (free.number_turn s t d g f v at y)
+    unfolding number_turn free.number_turn
     number-turn n v at y r =
-        turn_then (Going n) Ran (Read y) (expressionOf s t d 1 at y) (expressionOf s t d 1 at y) _ _ (refl, number_read s t d at y fair) (λ z e y' h.
+        turn_then (Going n) Ran (Read y) (expression_of s t d 1 at y) (expression_of s t d 1 at y) _ _ (refl, number_read s t d at y fair) (λ z e y' h.
         turn_word (Going n) Ran s e y' _ _ (λ k st v' nx w.
         turn_pick (Going n) Ran (eqb k 59) _ _ _ _
-        (λ q. more_same (Going n) Ran (nextℤ v) (free.behind v) nx (gaveOf s t d g f v z y') (gaveOf s t d g f v z y') (next-count i n v r.0) refl
+        (λ q. more_same (Going n) Ran (nextℤ v) (free.behind v) nx (gave_of s t d g f v z y') (gave_of s t d g f v z y') (next-count i n v r.0) refl
         (count_more i n v r.0, λ b. gave-same g f v z y' b ∙ h.1 ∙ r.1 b)) (λ q.
         turn_pick (Going n) Ran (eqb k 93) _ (last (no 2 st y')) _ (last (no 2 st y'))
-        (λ q. last_same (Going n) Ran (ok (nextℤ v) nx (gaveOf s t d g f v z y')) (ok (free.behind v) nx (gaveOf s t d g f v z y'))
-        (ok_same Ran (nextℤ v) (free.behind v) nx (gaveOf s t d g f v z y') (gaveOf s t d g f v z y') (next-count i n v r.0) refl
+        (λ q. last_same (Going n) Ran (ok (nextℤ v) nx (gave_of s t d g f v z y')) (ok (free.behind v) nx (gave_of s t d g f v z y'))
+        (ok_same Ran (nextℤ v) (free.behind v) nx (gave_of s t d g f v z y') (gave_of s t d g f v z y') (next-count i n v r.0) refl
         (count-passed i n v r.0, λ b. gave-same g f v z y' b ∙ h.1 ∙ r.1 b))) (λ q. (refl, tt)))))
 
     numbers-run : (n : ℕ) (v : ℤ) (at : ℕ) → Counts i n v
-        → Both Ran (repeat (numberTurn s t d g f) n v at x) (repeat (free.numberTurn s t d g f) n v at x)
-    numbers-run n v at c = both_repeat Going Ran (numberTurn s t d g f) (free.numberTurn s t d g f) number-turn n v at x (c, λ b. refl)
+        → Both Ran (repeat (number_turn s t d g f) n v at x) (repeat (free.number_turn s t d g f) n v at x)
+    numbers-run n v at c = both_repeat Going Ran (number_turn s t d g f) (free.number_turn s t d g f) number-turn n v at x (c, λ b. refl)
 
   start : (n : ℕ) → n ≤ 65535 → Counts 0 n (pos 0)
   start n h = record { many = 0; says = refl; over = omega arith; under = omega arith }
@@ -180,63 +180,63 @@ module _ (s t : List ℕ) (d : ℕ) (fair : AllFair t) where
     below i x (ok v e y) u r = let l : i < upward v = r.0 in omega arith
     below i x (no n p y) u r = absurd u
 
-    gives : (v z : ℤ) (i : ℕ) (y : State) → v ≡ pos i → f + i < 64 → Sound y → Sound (gaveOf s t d true f v z y)
+    gives : (v z : ℤ) (i : ℕ) (y : State) → v ≡ pos i → f + i < 64 → Sound y → Sound (gave_of s t d true f v z y)
     gives v z i y e h r =
         let u : f + upward v < 64 = subst (λ (w : ℤ). f + upward w < 64) (sym e) h in
         record { nodes = r.nodes; pinned = positioned_keeps y.0 (f + upward v) z u r.pinned; runs = positioned_runs y.0 (f + upward v) z u r.runs }
 
     abbrev first : ℕ → ℤ → ℕ → State → Outcome State ℤ
-    first n v at x = repeat (numberTurn s t d false f) n v at x
+    first n v at x = repeat (number_turn s t d false f) n v at x
 
     abbrev again : ℕ → ℤ → ℕ → State → Outcome State ℤ
-    again n v at y = repeat (numberTurn s t d true f) n v at y
+    again n v at y = repeat (number_turn s t d true f) n v at y
 
     module _ (n : ℕ) (v : ℤ) (i : ℕ) (is : v ≡ pos i) (few : i + suc n ≤ 65535) (room : f + i < 64)
         (ih : (at : ℕ) (x y : State) → Sound y → Until (first n (nextℤ v) at x) → Fine Left (again n (nextℤ v) at y)) where
       by_kind : (a b : Bool) (z : ℤ) (st nx : ℕ) (x y : State) → Sound y
-          → Until (on_turn (pick a (more (nextℤ v) nx (gaveOf s t d false f v z x)) (pick b (last (ok (nextℤ v) nx (gaveOf s t d false f v z x))) (last (no 2 st x)))) (first n))
-          → Fine Left (on_turn (pick a (more (nextℤ v) nx (gaveOf s t d true f v z y)) (pick b (last (ok (nextℤ v) nx (gaveOf s t d true f v z y))) (last (no 2 st y)))) (again n))
-      by_kind true b z st nx x y r u = ih nx (gaveOf s t d false f v z x) (gaveOf s t d true f v z y) (gives v z i y is room r) u
+          → Until (on_turn (pick a (more (nextℤ v) nx (gave_of s t d false f v z x)) (pick b (last (ok (nextℤ v) nx (gave_of s t d false f v z x))) (last (no 2 st x)))) (first n))
+          → Fine Left (on_turn (pick a (more (nextℤ v) nx (gave_of s t d true f v z y)) (pick b (last (ok (nextℤ v) nx (gave_of s t d true f v z y))) (last (no 2 st y)))) (again n))
+      by_kind true b z st nx x y r u = ih nx (gave_of s t d false f v z x) (gave_of s t d true f v z y) (gives v z i y is room r) u
       by_kind false true z st nx x y r u = gives v z i y is room r
       by_kind false false z st nx x y r u = tt
 
       by_word : (w : Taken) (z : ℤ) (x y : State) → Sound y
-          → Until (on_turn (word_turn x w (λ k st v' nx. pick (eqb k 59) (more (nextℤ v) nx (gaveOf s t d false f v z x)) (pick (eqb k 93) (last (ok (nextℤ v) nx (gaveOf s t d false f v z x))) (last (no 2 st x))))) (first n))
-          → Fine Left (on_turn (word_turn y w (λ k st v' nx. pick (eqb k 59) (more (nextℤ v) nx (gaveOf s t d true f v z y)) (pick (eqb k 93) (last (ok (nextℤ v) nx (gaveOf s t d true f v z y))) (last (no 2 st y))))) (again n))
+          → Until (on_turn (word_turn x w (λ k st v' nx. pick (eqb k 59) (more (nextℤ v) nx (gave_of s t d false f v z x)) (pick (eqb k 93) (last (ok (nextℤ v) nx (gave_of s t d false f v z x))) (last (no 2 st x))))) (first n))
+          → Fine Left (on_turn (word_turn y w (λ k st v' nx. pick (eqb k 59) (more (nextℤ v) nx (gave_of s t d true f v z y)) (pick (eqb k 93) (last (ok (nextℤ v) nx (gave_of s t d true f v z y))) (last (no 2 st y))))) (again n))
       by_word (Word k st v' c) z x y r u = by_kind (eqb k 59) (eqb k 93) z st c.at x y r u
       by_word (Refused m p) z x y r u = tt
 
       by_number : (x₀ y₀ : State) (o o' : Outcome State ℤ) → RelO (Kept s t x₀ y₀) (Alike s t x₀ y₀) o o' → Sound y₀
-          → Until (on_turn (then_turn o (λ z e y. word_turn y (next_word s e) (λ k st v' nx. pick (eqb k 59) (more (nextℤ v) nx (gaveOf s t d false f v z y)) (pick (eqb k 93) (last (ok (nextℤ v) nx (gaveOf s t d false f v z y))) (last (no 2 st y)))))) (first n))
-          → Fine Left (on_turn (then_turn o' (λ z e y. word_turn y (next_word s e) (λ k st v' nx. pick (eqb k 59) (more (nextℤ v) nx (gaveOf s t d true f v z y)) (pick (eqb k 93) (last (ok (nextℤ v) nx (gaveOf s t d true f v z y))) (last (no 2 st y)))))) (again n))
+          → Until (on_turn (then_turn o (λ z e y. word_turn y (next_word s e) (λ k st v' nx. pick (eqb k 59) (more (nextℤ v) nx (gave_of s t d false f v z y)) (pick (eqb k 93) (last (ok (nextℤ v) nx (gave_of s t d false f v z y))) (last (no 2 st y)))))) (first n))
+          → Fine Left (on_turn (then_turn o' (λ z e y. word_turn y (next_word s e) (λ k st v' nx. pick (eqb k 59) (more (nextℤ v) nx (gave_of s t d true f v z y)) (pick (eqb k 93) (last (ok (nextℤ v) nx (gave_of s t d true f v z y))) (last (no 2 st y)))))) (again n))
       by_number x₀ y₀ (ok z e x) (ok z' e' y) a r u =
           let sound : Sound y = subst Sound (sym a.2.1) r in
-          subst (λ (j : ℕ). Fine Left (on_turn (word_turn y (next_word s j) (λ k st v' nx. pick (eqb k 59) (more (nextℤ v) nx (gaveOf s t d true f v z' y)) (pick (eqb k 93) (last (ok (nextℤ v) nx (gaveOf s t d true f v z' y))) (last (no 2 st y))))) (again n)))
+          subst (λ (j : ℕ). Fine Left (on_turn (word_turn y (next_word s j) (λ k st v' nx. pick (eqb k 59) (more (nextℤ v) nx (gave_of s t d true f v z' y)) (pick (eqb k 93) (last (ok (nextℤ v) nx (gave_of s t d true f v z' y))) (last (no 2 st y))))) (again n)))
           a.1
-          (subst (λ (q : ℤ). Fine Left (on_turn (word_turn y (next_word s e) (λ k st v' nx. pick (eqb k 59) (more (nextℤ v) nx (gaveOf s t d true f v q y)) (pick (eqb k 93) (last (ok (nextℤ v) nx (gaveOf s t d true f v q y))) (last (no 2 st y))))) (again n)))
+          (subst (λ (q : ℤ). Fine Left (on_turn (word_turn y (next_word s e) (λ k st v' nx. pick (eqb k 59) (more (nextℤ v) nx (gave_of s t d true f v q y)) (pick (eqb k 93) (last (ok (nextℤ v) nx (gave_of s t d true f v q y))) (last (no 2 st y))))) (again n)))
           a.0 (by_word (next_word s e) z x y sound u))
       by_number x₀ y₀ (ok z e x) (no m p y) a r u = tt
       by_number x₀ y₀ (no m p x) (ok z e y) a r u = absurd a
       by_number x₀ y₀ (no m p x) (no m' q y) a r u = tt
 
     gives_all : (n : ℕ) (v : ℤ) (i : ℕ) → v ≡ pos i → i + n ≤ 65535 → (at : ℕ) (x y : State) → Sound y → Until (first n v at x) → Fine Left (again n v at y)
-    unfolding repeat numberTurn
+    unfolding repeat number_turn
     gives_all zero v i e few at x y r u = tt
     gives_all (suc n) v i e few at x y r u =
         let c : Counts i (suc n) v = record { many = i; says = e; over = omega arith; under = few } in
         let room : f + i < 64 = below i x (first (suc n) v at x) u (numbers-run false f i x (suc n) v at c).1 in
         by_number n v i e few room (λ at x y r u. gives_all n (nextℤ v) (i + 1) (ap nextℤ e ∙ next_up i (omega arith)) (omega arith) at x y r u) x y
-        (expressionOf s t d 1 at x) (expressionOf s t d 1 at y) (still_expression s t x y d 1 at refl) r u
+        (expression_of s t d 1 at x) (expression_of s t d 1 at y) (still_expression s t x y d 1 at refl) r u
 
 -- ---- statements
 
 module _ (s t : List ℕ) (d : ℕ) (small : length s ≤ 32768) (fair : AllFair t) where
-  assignment-of : (k at : ℕ) (x : State) → k < 64 → Sound x → Both Left (assignmentOf s t d k at x) (free.assignmentOf s t d k at x)
-  unfolding assignmentOf free.assignmentOf
+  assignment-of : (k at : ℕ) (x : State) → k < 64 → Sound x → Both Left (assignment_of s t d k at x) (free.assignment_of s t d k at x)
+  unfolding assignment_of free.assignment_of
   assignment-of k at x h r =
       let size = r.pinned.size in
-      both_then Left Left (expressionOf s t d 2 at x) (free.signal_of s t d at x) _ _
-      (signal_same s t d at x (omega arith), holds_left (expressionOf s t d 2 at x) (expression_keeps s t fair Sound emit_sound d 2 at x r)) (λ v e y q.
+      both_then Left Left (expression_of s t d 2 at x) (free.signal_of s t d at x) _ _
+      (signal_same s t d at x (omega arith), holds_left (expression_of s t d 2 at x) (expression_keeps s t fair Sound emit_sound d 2 at x r)) (λ v e y q.
       let a : x.1 ≤ 2048 = r.nodes in
       let b : y.1 ≤ 2048 = q.nodes in
       let l : assigned_in y.0 k x.1 y.1 ≡ free.assigned_in y.0 k x.1 y.1 = assigned_free y.0 k x.1 y.1 (omega arith) (omega arith) in
@@ -248,13 +248,13 @@ module _ (s t : List ℕ) (d : ℕ) (small : length s ≤ 32768) (fair : AllFair
         runs = subst Runs (sym l) (assigned_runs y.0 k x.1 y.1 h a b q.runs);
       }))
 
-  counted_of : (f n at : ℕ) (x : State) → f + width_of n ≤ 64 → Sound x → (o : Outcome State ℤ) → numbersOf s t d false f at x ≡ o
-      → Fine (Ran s t d fair false f 0 x) o → Both Left (and_then o (countedOf s t d f n at)) (and_then o (free.countedOf s t d f n at))
-  unfolding numbersOf free.numbersOf
-  counted_of f n at x h r (ok m e y) q u =
+  counted_of_lem : (f n at : ℕ) (x : State) → f + width_of n ≤ 64 → Sound x → (o : Outcome State ℤ) → numbers_of s t d false f at x ≡ o
+      → Fine (Ran s t d fair false f 0 x) o → Both Left (and_then o (counted_of s t d f n at)) (and_then o (free.counted_of s t d f n at))
+  unfolding numbers_of free.numbers_of
+  counted_of_lem f n at x h r (ok m e y) q u =
       let same : y ≡ x = u.1 refl in
       let sound : Sound y = subst Sound (sym same) r in
-      both_pick Left (eqb (upward m) n) (numbersOf s t d true f at y) _ (free.numbersOf s t d true f at y) _
+      both_pick Left (eqb (upward m) n) (numbers_of s t d true f at y) _ (free.numbers_of s t d true f at y) _
       (λ b.
       let c : Counts 0 (suc (length s)) (pos 0) = start s t d fair (suc (length s)) (omega arith) in
       let over : n ≤ width_of n = width_over n in
@@ -264,20 +264,20 @@ module _ (s t : List ℕ) (d : ℕ) (small : length s ≤ 32768) (fair : AllFair
         gives_all s t d fair f (suc (length s)) (pos 0) 0 refl (omega arith) at x y sound (subst (λ (o : Outcome State ℤ). Until s t d fair f o) (sym q) until),
       ))
       (λ b. (refl, record { nodes = sound.nodes; pinned = miscounted_keeps (width_of n) y.0 f h sound.pinned; runs = miscounted_runs (width_of n) y.0 f h sound.runs }))
-  counted_of f n at x h r (no m p y) q u = (refl, tt)
+  counted_of_lem f n at x h r (no m p y) q u = (refl, tt)
 
   list-of : (f n at : ℕ) (x : State) → f + width_of n ≤ 64 → Sound x → Both Left (list_of s t d f n at x) (free.list_of s t d f n at x)
-  unfolding list_of free.list_of numbersOf free.numbersOf
+  unfolding list_of free.list_of numbers_of free.numbers_of
   list-of f n at x h r =
       let c : Counts 0 (suc (length s)) (pos 0) = start s t d fair (suc (length s)) (omega arith) in
       let run = numbers-run s t d fair false f 0 x (suc (length s)) (pos 0) at c in
-      subst (λ (o : Outcome State ℤ). Both Left (and_then (numbersOf s t d false f at x) (countedOf s t d f n at)) (and_then o (free.countedOf s t d f n at))) run.0
-      (counted_of f n at x h r (numbersOf s t d false f at x) refl run.1)
+      subst (λ (o : Outcome State ℤ). Both Left (and_then (numbers_of s t d false f at x) (counted_of s t d f n at)) (and_then o (free.counted_of s t d f n at))) run.0
+      (counted_of_lem f n at x h r (numbers_of s t d false f at x) refl run.1)
 
   one-of : (f n at : ℕ) (x : State) → f + width_of n ≤ 64 → Sound x → Fine Left (one_of s t d f n at x)
   unfolding one_of
   one-of f n at x h r =
-      fine_then (Read x) Left (expressionOf s t d 1 at x) _ (number_read s t d at x fair) (λ z e y q.
+      fine_then (Read x) Left (expression_of s t d 1 at x) _ (number_read s t d at x fair) (λ z e y q.
       let sound : Sound y = subst Sound (sym q.1) r in
       let some : 1 ≤ width_of n = width_some n in
       let over : n ≤ width_of n = width_over n in
@@ -304,31 +304,31 @@ module _ (s t : List ℕ) (d : ℕ) (small : length s ≤ 32768) (fair : AllFair
   placed-of st at x (valued z) h r = (refl, tt)
   placed-of st at x (signal f n) h r = position-of f n at x h r
 
-  behind-of : (x : State) (a : Target) → Aimed a → Sound x → Both Left (behindOf s t d x a) (free.behindOf s t d x a)
+  behind-of : (x : State) (a : Target) → Aimed a → Sound x → Both Left (behind_of s t d x a) (free.behind_of s t d x a)
   behind-of x (missed n p) h r = (refl, tt)
   behind-of x (element k at) h r =
       both_word Left s at x _ _ (λ w p v nx g.
-      both_pick Left (eqb w 189) (assignmentOf s t d k nx x) _ (free.assignmentOf s t d k nx x) _ (λ b. assignment-of k nx x h r) (λ b.
+      both_pick Left (eqb w 189) (assignment_of s t d k nx x) _ (free.assignment_of s t d k nx x) _ (λ b. assignment-of k nx x h r) (λ b.
       both_pick Left (eqb w 186) (position_of s t d k 0 nx x) (no 2 p x) (free.position_of s t d k 0 nx x) (no 2 p x)
       (λ b. position-of k 0 nx x (let q : k + 1 ≤ 64 = omega arith in q) r) (λ b. (refl, tt))))
 
-  act-of : (st e : ℕ) (x : State) → Sound x → Both Left (actOf s t d st e x) (free.actOf s t d st e x)
-  unfolding actOf free.actOf
+  act-of : (st e : ℕ) (x : State) → Sound x → Both Left (act_of s t d st e x) (free.act_of s t d st e x)
+  unfolding act_of free.act_of
   act-of st e x r =
       both_word Left s e x _ _ (λ k p v nx w.
-      both_pick Left (eqb k 186) (placed_of s t d st nx x (meaning_of s t st e)) (behindOf s t d x (target_of s t d st e))
-      (free.placed_of s t d st nx x (meaning_of s t st e)) (free.behindOf s t d x (free.target_of s t d st e))
+      both_pick Left (eqb k 186) (placed_of s t d st nx x (meaning_of s t st e)) (behind_of s t d x (target_of s t d st e))
+      (free.placed_of s t d st nx x (meaning_of s t st e)) (free.behind_of s t d x (free.target_of s t d st e))
       (λ b. placed-of st nx x (meaning_of s t st e) (fair_meaning s t st e fair) r)
-      (λ b. subst (λ (a : Target). Both Left (behindOf s t d x (target_of s t d st e)) (free.behindOf s t d x a)) (target_same s t d st e)
+      (λ b. subst (λ (a : Target). Both Left (behind_of s t d x (target_of s t d st e)) (free.behind_of s t d x a)) (target_same s t d st e)
       (behind-of x (target_of s t d st e) (target_aimed s t d st e fair) r)))
 
   -- a statement or a round is counted
   pub sound_used : (x : State) → Sound x → Sound (one_more x.0 used_at 4096, x.1)
   sound_used x r = record { nodes = r.nodes; pinned = used_keeps x.0 r.pinned; runs = used_runs x.0 r.runs }
 
-  pub simple_of : (st e : ℕ) (x : State) → Sound x → Both Left (simpleOf s t d st e x) (free.simpleOf s t d st e x)
-  unfolding simpleOf free.simpleOf
-  simple_of st e x r =
-      both_pick Left (allows x.0 used_at 4096) (actOf s t d st e (one_more x.0 used_at 4096, x.1)) (no 6 st x)
-      (free.actOf s t d st e (one_more x.0 used_at 4096, x.1)) (no 6 st x)
+  pub simple_of_lem : (st e : ℕ) (x : State) → Sound x → Both Left (simple_of s t d st e x) (free.simple_of s t d st e x)
+  unfolding simple_of free.simple_of
+  simple_of_lem st e x r =
+      both_pick Left (allows x.0 used_at 4096) (act_of s t d st e (one_more x.0 used_at 4096, x.1)) (no 6 st x)
+      (free.act_of s t d st e (one_more x.0 used_at 4096, x.1)) (no 6 st x)
       (λ b. act-of st e (one_more x.0 used_at 4096, x.1) (sound_used x r)) (λ b. (refl, tt))

@@ -17,13 +17,13 @@ use Rattle.grammar.specs.Outcome.{Outcome, ok, no, built, bad, more, last, level
 use Rattle.grammar.specs.Grammar.{closed, turned}
 use Rattle.grammar.proofs.Chain.{other}
 use Rattle.judging.specs.Reading.{State, emitted}
-use Rattle.readers.specs.Readers.{expressionOf}
+use Rattle.readers.specs.Readers.{expression_of}
 use Rattle.equations.proofs.Still.{Leaves, reads_still}
 use Rattle.trees.specs.Layout.{start_at, parts_length}
 use Rattle.parts.specs.Parts.{elements_at, constants_at, allows, one_more, declared_from}
 use Rattle.simple.specs.Statements.{upward}
 use Rattle.lists.specs.Lists.{is_known, fresh_of, is_length, closed_type, length_on, length_of, type_of}
-use Rattle.declare.specs.Declarations.{with_constant, width_of, element_name, constantEnd, constantFrom, constant_of, elementTurn, elements_of, listEnd, signalsFrom, signals_of, item_of, itemTurn, items_of, sectionOf, sectionsOf, declarationsOf}
+use Rattle.declare.specs.Declarations.{with_constant, width_of, element_name, constant_end, constant_from, constant_of, element_turn, elements_of, list_end, signals_from, signals_of, item_of, item_turn, items_of, section_of, sections_of, declarations_of}
 use Rattle.reached.proofs.Unbounded as free
 use Rattle.reached.proofs.Numbers.{Bounded}
 use Rattle.reached.proofs.Holds.{HoldsB, Holds}
@@ -56,8 +56,8 @@ wrote c p x h q = outer (ltb x.1 2048)
     outer true = inside (ltb x.1 (length x.0))
     outer false = tt
 
-pub number_read : (s t : List ℕ) (d at : ℕ) (x : State) → AllFair t → Fine (Read x) (expressionOf s t d 1 at x)
-number_read s t d at x f = read x (expressionOf s t d 1 at x) (expression_keeps s t f Nothing wrote d 1 at x tt) (reads_still s t x d 1 at refl)
+pub number_read : (s t : List ℕ) (d at : ℕ) (x : State) → AllFair t → Fine (Read x) (expression_of s t d 1 at x)
+number_read s t d at x f = read x (expression_of s t d 1 at x) (expression_keeps s t f Nothing wrote d 1 at x tt) (reads_still s t x d 1 at refl)
 
 -- ---- what holds while declarations are read: j names are counted that are not yet added
 
@@ -100,8 +100,8 @@ counted l k n e = simp e
 
 module _ (s : List ℕ) (small : length s ≤ 32768) where
   constant-end : (t : List ℕ) (st e : ℕ) (z : ℤ) (at : ℕ) (y : State) → st < length s → e ≤ length s + 2 → Bounded z → Room 1 t y
-      → Both (Room 0) (constantEnd s t st e z at y) (free.constantEnd s t st e z at y)
-  unfolding constantEnd free.constantEnd
+      → Both (Room 0) (constant_end s t st e z at y) (free.constant_end s t st e z at y)
+  unfolding constant_end free.constant_end
   constant-end t st e z at y a b h r =
       both_word (Room 0) s at y _ _ (λ k p v nx w.
       both_pick (Room 0) (eqb k 59) (ok (with_constant t st e z) nx y) (no 2 p y) (ok (free.with_constant t st e z) nx y) (no 2 p y)
@@ -125,12 +125,12 @@ module _ (s : List ℕ) (small : length s ≤ 32768) where
           }
 
   constant-from : (t : List ℕ) (st e : ℕ) (x : State) → st < length s → e ≤ length s + 2 → Room 1 t x
-      → Both (Room 0) (constantFrom s t st e x) (free.constantFrom s t st e x)
-  unfolding constantFrom free.constantFrom
+      → Both (Room 0) (constant_from s t st e x) (free.constant_from s t st e x)
+  unfolding constant_from free.constant_from
   constant-from t st e x a b r =
       both_word (Room 0) s e x _ _ (λ k p v nx w.
       both_pick (Room 0) (eqb k 189) _ (no 2 p x) _ (no 2 p x)
-      (λ q. both_then (Read x) (Room 0) (expressionOf s t levels 1 nx x) (expressionOf s t levels 1 nx x) (constantEnd s t st e) (free.constantEnd s t st e)
+      (λ q. both_then (Read x) (Room 0) (expression_of s t levels 1 nx x) (expression_of s t levels 1 nx x) (constant_end s t st e) (free.constant_end s t st e)
       (refl, number_read s t levels nx x r.fair) (λ z at y h. constant-end t st e z at y a b h.0 (room_state 1 t x y h.1 r)))
       (λ q. (refl, tt)))
 
@@ -212,8 +212,8 @@ module _ (s : List ℕ) (small : length s ≤ 32768) where
     element-name =
         turn_pick (Room 0) (Room 0) (leb (m + w) 64) _ (last (no 6 st x)) _ (last (no 6 st x)) (λ q. adds (leb-true (m + w) 64 q)) (λ q. (refl, tt))
 
-  element-turn : (c n : ℕ) (t : List ℕ) (at : ℕ) (x : State) → Room 0 t x → BothT (Room 0) (Room 0) (elementTurn s c n t at x) (free.elementTurn s c n t at x)
-  unfolding elementTurn free.elementTurn
+  element-turn : (c n : ℕ) (t : List ℕ) (at : ℕ) (x : State) → Room 0 t x → BothT (Room 0) (Room 0) (element_turn s c n t at x) (free.element_turn s c n t at x)
+  unfolding element_turn free.element_turn
   element-turn c n t at x r =
       turn_word (Room 0) (Room 0) s at x _ _ (λ k st v nx w.
       turn_pick (Room 0) (Room 0) (eqb k 1) (element_name c n t st nx x) _ (free.element_name c n t st nx x) _
@@ -222,10 +222,10 @@ module _ (s : List ℕ) (small : length s ≤ 32768) where
 
   elements-of : (c n : ℕ) (t : List ℕ) (at : ℕ) (x : State) → Room 0 t x → Both (Room 0) (elements_of s c n t at x) (free.elements_of s c n t at x)
   unfolding elements_of free.elements_of
-  elements-of c n t at x r = both_repeat (λ j. Room 0) (Room 0) (elementTurn s c n) (free.elementTurn s c n) (λ j t at x r. element-turn c n t at x r) (suc (length s)) t at x r
+  elements-of c n t at x r = both_repeat (λ j. Room 0) (Room 0) (element_turn s c n) (free.element_turn s c n) (λ j t at x r. element-turn c n t at x r) (suc (length s)) t at x r
 
-  list-end : (c : ℕ) (t : List ℕ) (first : ℕ) (z : ℤ) (at : ℕ) (y : State) → Room 0 t y → Both (Room 0) (listEnd s c t first z at y) (free.listEnd s c t first z at y)
-  unfolding listEnd free.listEnd
+  list-end : (c : ℕ) (t : List ℕ) (first : ℕ) (z : ℤ) (at : ℕ) (y : State) → Room 0 t y → Both (Room 0) (list_end s c t first z at y) (free.list_end s c t first z at y)
+  unfolding list_end free.list_end
   list-end c t first z at y r =
       both_word (Room 0) s at y _ _ (λ k p v nx w.
       both_pick (Room 0) (eqb k 59) _ (no 2 p y) _ (no 2 p y)
@@ -248,17 +248,17 @@ module _ (s : List ℕ) (small : length s ≤ 32768) where
       fine_pick (Same x) (eqb k 213) (ok (pos 0) nx x) _ (λ q. refl) (λ q.
       fine_pick (Same x) (eqb k 91) (length_of s t nx x) (no 2 p x)
       (λ q. fine_word (Same x) s nx x _ (λ k p v nx' w.
-      fine_then (Read x) (Same x) (expressionOf s t levels 1 nx x) (length_on s p) (number_read s t levels nx x f) (λ z e y h.
+      fine_then (Read x) (Same x) (expression_of s t levels 1 nx x) (length_on s p) (number_read s t levels nx x f) (λ z e y h.
       fine_pick (Same x) (is_length z) (closed_type s z e y) (no 5 p y)
       (λ q. fine_then (Same x) (Same x) (closed s 93 z e y) (closed s 213) (closed_same 93 z e x y h.1) (λ z e y h. closed_same 213 z e x y h)) (λ q. tt))))
       (λ q. tt)))
 
-  signals_from : (c : ℕ) (t : List ℕ) (first : ℕ) (x : State) (o : Outcome (Unit {0}) ℕ) → Room 0 t x
-      → Both (Room 0) (signalsFrom s c t first x o) (free.signalsFrom s c t first x o)
-  signals_from c t first x (ok v at u) r =
-      both_then (Same x) (Room 0) (type_of s t at x) (type_of s t at x) (listEnd s c t first) (free.listEnd s c t first) (refl, type-same t at x r.fair)
+  signals_from_lem : (c : ℕ) (t : List ℕ) (first : ℕ) (x : State) (o : Outcome (Unit {0}) ℕ) → Room 0 t x
+      → Both (Room 0) (signals_from s c t first x o) (free.signals_from s c t first x o)
+  signals_from_lem c t first x (ok v at u) r =
+      both_then (Same x) (Room 0) (type_of s t at x) (type_of s t at x) (list_end s c t first) (free.list_end s c t first) (refl, type-same t at x r.fair)
       (λ z e y h. list-end c t first z e y (room_state 0 t x y h r))
-  signals_from c t first x (no n p u) r = (refl, tt)
+  signals_from_lem c t first x (no n p u) r = (refl, tt)
 
   -- ---- sections
 
@@ -267,30 +267,30 @@ module _ (s : List ℕ) (small : length s ≤ 32768) where
   unfolding item_of free.item_of signals_of free.signals_of
   item-of c t at st e x a b r =
       both_pick (Room 0) (eqb c 0) (constant_of s t st e x) (signals_of s c t at x) (free.constant_of s t st e x) (free.signals_of s c t at x)
-      (λ q. constant-of t st e x a b r) (λ q. signals_from c t at x (fresh_of s t at) r)
+      (λ q. constant-of t st e x a b r) (λ q. signals_from_lem c t at x (fresh_of s t at) r)
 
-  item-turn : (c : ℕ) (t : List ℕ) (at : ℕ) (x : State) → Room 0 t x → BothT (Room 0) (Room 0) (itemTurn s c t at x) (free.itemTurn s c t at x)
-  unfolding itemTurn free.itemTurn
+  item-turn : (c : ℕ) (t : List ℕ) (at : ℕ) (x : State) → Room 0 t x → BothT (Room 0) (Room 0) (item_turn s c t at x) (free.item_turn s c t at x)
+  unfolding item_turn free.item_turn
   item-turn c t at x r =
       turn_word (Room 0) (Room 0) s at x _ _ (λ k st v nx w.
       turn_pick (Room 0) (Room 0) (eqb k 1) (turned (item_of s c t at st nx x)) (last (ok t at x)) (turned (free.item_of s c t at st nx x)) (last (ok t at x))
       (λ q. let h = w (other k 1 (λ z. omega arith) q) in
       turn_turned (Room 0) (item_of s c t at st nx x) (free.item_of s c t at st nx x) (item-of c t at st nx x h.starts h.ends r)) (λ q. (refl, r)))
 
-  section-of : (c : ℕ) (t : List ℕ) (at : ℕ) (x : State) → Room 0 t x → Both (Room 0) (sectionOf s c t at x) (free.sectionOf s c t at x)
-  unfolding sectionOf free.sectionOf items_of free.items_of
+  section-of : (c : ℕ) (t : List ℕ) (at : ℕ) (x : State) → Room 0 t x → Both (Room 0) (section_of s c t at x) (free.section_of s c t at x)
+  unfolding section_of free.section_of items_of free.items_of
   section-of c t at x r =
       both_word (Room 0) s at x _ _ (λ k st v nx w.
       both_pick (Room 0) (eqb k (208 + c)) (items_of s c t nx x) (ok t at x) (free.items_of s c t nx x) (ok t at x)
-      (λ q. both_repeat (λ j. Room 0) (Room 0) (itemTurn s c) (free.itemTurn s c) (λ j t at x r. item-turn c t at x r) (suc (length s)) t nx x r) (λ q. (refl, r)))
+      (λ q. both_repeat (λ j. Room 0) (Room 0) (item_turn s c) (free.item_turn s c) (λ j t at x r. item-turn c t at x r) (suc (length s)) t nx x r) (λ q. (refl, r)))
 
-  sections-of : (n c : ℕ) (t : List ℕ) (at : ℕ) (x : State) → Room 0 t x → Both (Room 0) (sectionsOf s n c t at x) (free.sectionsOf s n c t at x)
-  unfolding sectionsOf free.sectionsOf
+  sections-of : (n c : ℕ) (t : List ℕ) (at : ℕ) (x : State) → Room 0 t x → Both (Room 0) (sections_of s n c t at x) (free.sections_of s n c t at x)
+  unfolding sections_of free.sections_of
   sections-of zero c t at x r = (refl, r)
   sections-of (suc n) c t at x r =
-      both_then (Room 0) (Room 0) (sectionOf s c t at x) (free.sectionOf s c t at x) _ _ (section-of c t at x r) (λ u e y r. sections-of n (c + 1) u e y r)
+      both_then (Room 0) (Room 0) (section_of s c t at x) (free.section_of s c t at x) _ _ (section-of c t at x r) (λ u e y r. sections-of n (c + 1) u e y r)
 
   -- the declarations of a text that is within its limit
-  pub declarations_of : (at : ℕ) (x : State) → Room 0 [] x → Both (Room 0) (declarationsOf s at x) (free.declarationsOf s at x)
-  unfolding declarationsOf free.declarationsOf
-  declarations_of at x r = sections-of 4 0 [] at x r
+  pub declarations_of_lem : (at : ℕ) (x : State) → Room 0 [] x → Both (Room 0) (declarations_of s at x) (free.declarations_of s at x)
+  unfolding declarations_of free.declarations_of
+  declarations_of_lem at x r = sections-of 4 0 [] at x r

@@ -13,7 +13,7 @@ use Rattle.words.specs.declared.Taken.{Taken}
 use Rattle.words.specs.declared.Taken.TheVariants.{Word, Refused}
 use Rattle.words.specs.Words.{next_word}
 use Rattle.grammar.specs.Outcome.{Outcome, ok, no, Built, built, bad, Turn, more, last, on_word, and_then, built_at, after_built}
-use Rattle.grammar.specs.Grammar.{Algebra, is_sum, is_product, index_sort, part_sort, closed, turn_built, turnWith, turnOn, on_turn, turn, chain, level, part, dotted, bracketed, pointed, named, muxThird, muxSecond, muxed, kept, regged, inverted, factor, term, expression, nested}
+use Rattle.grammar.specs.Grammar.{Algebra, is_sum, is_product, index_sort, part_sort, closed, turn_built, turn_with, turn_on, on_turn, turn, chain, level, part, dotted, bracketed, pointed, named, mux_third, mux_second, muxed, kept, regged, inverted, factor, term, expression, nested}
 use Rattle.grammar.proofs.Chain.{other}
 use Rattle.reached.proofs.Places.{Stands, Inside, next_in}
 
@@ -80,14 +80,14 @@ module _ {S : Type 0} (K : S → Type 0) where
         (chooses : (o p : ℕ) (u v w : A) (x : S) → K x → HoldsB P (alg.choose o p u v w x))
         (holds : (o p : ℕ) (i : A) (x : S) → K x → HoldsB P (alg.hold o p i x))
         (keeps : (o p : ℕ) (v w : A) (x : S) → K x → HoldsB P (alg.keep o p v w x)) (s : List ℕ) where
-      holds-with : (o : ℕ) (v : A) (k st : ℕ) (r : Outcome S A) → P v → Holds r → HoldsT (turnWith alg o v k st r)
+      holds-with : (o : ℕ) (v : A) (k st : ℕ) (r : Outcome S A) → P v → Holds r → HoldsT (turn_with alg o v k st r)
       holds-with o v k st (ok w e x) q a = holds-made e (alg.apply o k st v w x) (applies o k st v w x q a.0 a.1)
       holds-with o v k st (no n p x) q a = tt
 
       module _ (o : ℕ) (among : ℕ → Bool) (operand : ℕ → S → Outcome S A) (same : (at : ℕ) (x : S) → K x → Holds (operand at x)) where
-        holds_on : (v : A) (at : ℕ) (x : S) (t : Taken) → P v → K x → HoldsT (turnOn alg s o among operand v at x t)
+        holds_on : (v : A) (at : ℕ) (x : S) (t : Taken) → P v → K x → HoldsT (turn_on alg s o among operand v at x t)
         holds_on v at x (Word k st v' c) r q =
-            holds-pickT (among k) (turnWith alg o v k st (operand c.at x)) (last (ok v at x)) (holds-with o v k st (operand c.at x) r (same c.at x q)) (r, q)
+            holds-pickT (among k) (turn_with alg o v k st (operand c.at x)) (last (ok v at x)) (holds-with o v k st (operand c.at x) r (same c.at x q)) (r, q)
         holds_on v at x (Refused n p) r q = tt
 
         holds-links : (m : ℕ) (t : Turn S A) → HoldsT t → ((v : A) (e : ℕ) (x : S) → P v → K x → Holds (chain alg s o among operand m v e x))
@@ -99,7 +99,7 @@ module _ {S : Type 0} (K : S → Type 0) where
         unfolding chain turn
         holds-chain zero v at x r q = tt
         holds-chain (suc m) v at x r q =
-            holds-links m (turnOn alg s o among operand v at x (next_word s at)) (holds_on v at x (next_word s at) r q) (λ v e x r q. holds-chain m v e x r q)
+            holds-links m (turn_on alg s o among operand v at x (next_word s at)) (holds_on v at x (next_word s at) r q) (λ v e x r q. holds-chain m v e x r q)
 
         holds-level : (at : ℕ) (x : S) → K x → Holds (level alg s o among operand at x)
         unfolding level
@@ -144,22 +144,22 @@ module _ {S : Type 0} (K : S → Type 0) where
             holds-pick (eqb k 46) (pointed alg s o st e p nx x) (built_at e (alg.plain o st e x)) (λ b. holds-pointed o st e p nx x q) (λ b.
             holds-built e (alg.plain o st e x) (plains o st e x q))))
 
-        holds-third : (o p r : ℕ) (a b : A) (at : ℕ) (x : S) → K x → Holds (muxThird alg s inner o p r a b at x)
-        unfolding muxThird
+        holds-third : (o p r : ℕ) (a b : A) (at : ℕ) (x : S) → K x → Holds (mux_third alg s inner o p r a b at x)
+        unfolding mux_third
         holds-third o p r a b at x q =
             holds_then (part alg s inner (part_sort o) r 41 at x) _ (holds-part (part_sort o) r 41 at x q) (λ c e x h q. holds-built e (alg.choose o p a b c x) (chooses o p a b c x q))
 
-        holds-second : (o p r : ℕ) (a : A) (at : ℕ) (x : S) → K x → Holds (muxSecond alg s inner o p r a at x)
-        unfolding muxSecond
+        holds-second : (o p r : ℕ) (a : A) (at : ℕ) (x : S) → K x → Holds (mux_second alg s inner o p r a at x)
+        unfolding mux_second
         holds-second o p r a at x q =
-            holds_then (part alg s inner (part_sort o) r 44 at x) (muxThird alg s inner o p r a) (holds-part (part_sort o) r 44 at x q) (λ b e x g q. holds-third o p r a b e x q)
+            holds_then (part alg s inner (part_sort o) r 44 at x) (mux_third alg s inner o p r a) (holds-part (part_sort o) r 44 at x q) (λ b e x g q. holds-third o p r a b e x q)
 
         holds-muxed : (o p at : ℕ) (x : S) → K x → Holds (muxed alg s inner o p at x)
         unfolding muxed
         holds-muxed o p at x q =
             holds-word s at x _ (λ k r v nx w.
             holds-pick (eqb k 40) _ (no 2 r x)
-            (λ b. holds_then (part alg s inner (part_sort o) r 58 nx x) (muxSecond alg s inner o p r) (holds-part (part_sort o) r 58 nx x q) (λ a e x g q. holds-second o p r a e x q))
+            (λ b. holds_then (part alg s inner (part_sort o) r 58 nx x) (mux_second alg s inner o p r) (holds-part (part_sort o) r 58 nx x q) (λ a e x g q. holds-second o p r a e x q))
             (λ b. tt))
 
         holds_kept : (o p r : ℕ) (a : A) (at : ℕ) (x : S) → K x → Holds (kept alg s inner o p r a at x)

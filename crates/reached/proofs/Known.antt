@@ -14,7 +14,7 @@ use Rattle.integers.specs.Integers.{Answer, held, broken, combined}
 use Rattle.names.specs.Names.{Spelling, Seen, known, unknown, Sought, found, find, Entry, entry, entries, shown, same, spelling, number_of, looked_up}
 use Rattle.judging.specs.Judging.{Verdict, number, node, fault, Array, base, unfit, Meaning, valued, signal, nothing, meaning_on, meaning_of, mark_of, literal_of, logic_of, plain_on, plain_of, opened_on, opened_of, element_on, element_of, answered, operator_of}
 use Rattle.judging.specs.Reading.{State, emitted, done, based, reads}
-use Rattle.readers.specs.Readers.{inner_of, index_of, expressionOf}
+use Rattle.readers.specs.Readers.{inner_of, index_of, expression_of}
 use Rattle.declare.specs.Declarations.{width_of}
 use Rattle.reached.proofs.Numbers.{Bounded, BoundedA, bounded_combined}
 use Rattle.reached.proofs.Holds.{HoldsB, Holds, holds_named, holds_expression, holds_nested}
@@ -184,7 +184,7 @@ module _ (s t : List ℕ) (fair : AllFair t) (K : State → Type 0) (emits : (c 
       (λ o p a b x q. does (mark_of o 8 p) p x (fair_mark o 8 p (omega arith)) q) s
 
   -- an expression keeps K, and its number is within bounds
-  pub expression_keeps : (d o at : ℕ) (x : State) → K x → Holds K Bounded (expressionOf s t d o at x)
+  pub expression_keeps : (d o at : ℕ) (x : State) → K x → Holds K Bounded (expression_of s t d o at x)
   expression_keeps d o at x q =
       holds_expression K Bounded Base (reads s t)
       (λ o p v x h q. does (literal_of o p v) p x (fair_literal o p v h) q)

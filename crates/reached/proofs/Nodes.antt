@@ -20,7 +20,7 @@ use Rattle.grammar.specs.Grammar.{index_sort, part_sort, part, dotted, bracketed
 use Rattle.grammar.proofs.Related.{RelB, RelO, rel_part, rel_expression, rel_nested}
 use Rattle.judging.specs.Judging.{Verdict, number, node, fault, Array, base, unfit, meaning_of, mark_of, literal_of, logic_of, plain_of, opened_of, element_of, operator_of}
 use Rattle.judging.specs.Reading.{State, emitted, done, based, reads}
-use Rattle.readers.specs.Readers.{expressionOf}
+use Rattle.readers.specs.Readers.{expression_of}
 use Rattle.equations.proofs.Written.{Emits, emits_mark, emits_literal, emits_logic, emits_plain, emits_element, emits_operator, logic_code, name_code, element_code, operator_code, part_two, index_two}
 use Rattle.simple.specs.Statements.{target_on, target_of}
 use Rattle.reached.proofs.Unbounded as free
@@ -65,7 +65,7 @@ module _ (s t : List ℕ) (Q : State → State → Type 0) (W : ℕ → Type 0) 
       (λ o p a b a' b' x y e f q g. judged o 8 (mark_of o 8 p) p x y (emits_mark o 8 p) g q) s
 
   alike-expression : (d o at : ℕ) (x y : State) → Q x y → W o
-      → RelO Q Alike (expressionOf s t d o at x) (expression (free.reads s t) s (nested (free.reads s t) s d) o at y)
+      → RelO Q Alike (expression_of s t d o at x) (expression (free.reads s t) s (nested (free.reads s t) s d) o at y)
   alike-expression d o at x y q g =
       rel_expression Q Alike Paired (reads s t) (free.reads s t) W indexed parted
       (λ o p v x y q g. judged o 0 (literal_of o p v) p x y (emits_literal o 0 p v) g q)
@@ -131,9 +131,9 @@ same_answer Q h (no n p x) (ok w f y) a = absurd a
 same_answer Q h (no n p x) (no m q y) a = ap (λ (u : ℕ). no u p x) a.0 ∙ ap (λ (u : ℕ). no m u x) a.1 ∙ ap (λ (u : State). no m q u) (h x y a.2)
 
 -- a signal is read alike
-pub signal_same : (s t : List ℕ) (d at : ℕ) (x : State) → 2048 ≤ length x.0 → expressionOf s t d 2 at x ≡ free.signal_of s t d at x
+pub signal_same : (s t : List ℕ) (d at : ℕ) (x : State) → 2048 ≤ length x.0 → expression_of s t d 2 at x ≡ free.signal_of s t d at x
 signal_same s t d at x h =
-    same_answer Roomy (λ x y q. q.0) (expressionOf s t d 2 at x) (free.signal_of s t d at x)
+    same_answer Roomy (λ x y q. q.0) (expression_of s t d 2 at x) (free.signal_of s t d at x)
     (alike-expression s t Roomy Every (λ o g. tt) (λ o g. tt) judged_roomy d 2 at x x (refl, h) tt)
 
 -- ---- a target, in the room of one

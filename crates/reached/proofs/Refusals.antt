@@ -17,7 +17,7 @@ use Rattle.grammar.specs.Forms.{Statements, Declarations, parsed_text, checked_t
 use Rattle.grammar.proofs.Alike.{Like, Places, checked_text_lem}
 use Rattle.judging.specs.Reading.{State}
 use Rattle.trees.specs.Layout.{Elements, elements_of}
-use Rattle.declare.specs.Declarations.{declarationsOf}
+use Rattle.declare.specs.Declarations.{declarations_of}
 use Rattle.unroll.specs.Loops.{statements_of}
 use Rattle.circuit.specs.StageFive.{misassigned, misplaced, looped, mispositioned, first_below, Verdict, stage_five}
 use Rattle.circuit.specs.StageFive.Verdict.{fine, refused as faulty}
@@ -72,7 +72,7 @@ unrolled_told (no n p x) h = (omega arith, omega arith)
 module _ (s : List ℕ) (small : length s ≤ 32768) where
   third-told : (m : Module Declarations Statements) (e : ℕ) → parsed_text s ≡ ok m e tt → ToldF 10 (third s m.declarations m.statements)
   unfolding third fourth
-  third-told m e q = go (declarationsOf s m.declarations (replicate 2588 0, 0)) (declarations_later s (omega arith) m e q (replicate 2588 0, 0))
+  third-told m e q = go (declarations_of s m.declarations (replicate 2588 0, 0)) (declarations_later s (omega arith) m e q (replicate 2588 0, 0))
     where
       go : (o : Outcome State (List ℕ)) → LaterIn o → ToldF 10 (declared s m.statements o)
       go (ok t at x) h = unrolled_told (statements_of s levels t m.statements x) (statements_later s (omega arith) m e q t x)

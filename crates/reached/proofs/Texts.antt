@@ -20,14 +20,14 @@ use Rattle.trees.specs.Layout.{Elements, elements_of, start_at, size_at, pin_at}
 use Rattle.parts.specs.Parts.{elements_at, constants_at}
 use Rattle.circuit.specs.StageFive.{Verdict, stage_five}
 use Rattle.circuit.specs.StageFive.Verdict.{fine, refused as faulty}
-use Rattle.declare.specs.Declarations.{declarationsOf}
+use Rattle.declare.specs.Declarations.{declarations_of}
 use Rattle.unroll.specs.Loops.{statements_of}
 use Rattle.texts.specs.Stages.{Front, stays, refused, unless, fifth, unrolled, fourth, declared, third, checked, second, front_of, fitting, whole_of}
 use Rattle.reached.proofs.Unbounded as free
 use Rattle.reached.specs.Counted.{counted_five}
 use Rattle.reached.proofs.Known.{AllFair}
 use Rattle.reached.proofs.Both.{Fine}
-use Rattle.reached.proofs.Declared.{Room, declarations_of}
+use Rattle.reached.proofs.Declared.{Room, declarations_of_lem}
 use Rattle.reached.proofs.Shared.{Pinned}
 use Rattle.reached.proofs.Runs.{Runs, begins, counts, nodes_whole}
 use Rattle.reached.proofs.Acts.{Sound, Left}
@@ -101,8 +101,8 @@ module _ (five : Elements → Verdict) (agree : (l : List ℕ) → Pinned l → 
     third-same : (at b : ℕ) → third s at b ≡ free.third five s at b
     unfolding third free.third
     third-same at b =
-        let d = declarations_of s small at (replicate 2588 0, 0) start_room in
-        declared_same b (declarationsOf s at (replicate 2588 0, 0)) d.1 ∙ ap (free.declared five s b) d.0
+        let d = declarations_of_lem s small at (replicate 2588 0, 0) start_room in
+        declared_same b (declarations_of s at (replicate 2588 0, 0)) d.1 ∙ ap (free.declared five s b) d.0
 
     checked-same : (o : Outcome (Unit {0}) (Module (Unit {0}) (Unit {0}))) → checked s o ≡ free.checked five s o
     checked-same (ok m at u) = third-same m.declarations m.statements
@@ -156,7 +156,7 @@ whole_declared s small b (no n p x) r = tt
 whole_checked : (s : List ℕ) → length s ≤ 32768 → (o : Outcome (Unit {0}) (Module (Unit {0}) (Unit {0}))) → Whole (checked s o)
 unfolding third
 whole_checked s small (ok m at u) =
-    whole_declared s small m.statements (declarationsOf s m.declarations (zeros, 0)) (declarations_of s small m.declarations (zeros, 0) start_room).1
+    whole_declared s small m.statements (declarations_of s m.declarations (zeros, 0)) (declarations_of_lem s small m.declarations (zeros, 0) start_room).1
 whole_checked s small (no n p u) = tt
 
 whole_front : (s : List ℕ) → Whole (front_of s)

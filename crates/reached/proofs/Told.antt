@@ -16,7 +16,7 @@ use Rattle.words.specs.declared.Gap.TheVariants.{Here, Cut}
 use Rattle.words.specs.declared.Taken.{Taken}
 use Rattle.words.specs.declared.Taken.TheVariants.{Word, Refused}
 use Rattle.grammar.specs.Outcome.{Outcome, ok, no, Built, built, bad, Turn, more, last, on_word, and_then, built_at, after_built}
-use Rattle.grammar.specs.Grammar.{Algebra, is_sum, is_product, index_sort, part_sort, closed, turn_built, turnWith, turnOn, on_turn, turn, chain, level, part, dotted, bracketed, pointed, named, muxThird, muxSecond, muxed, kept, regged, inverted, factor, term, expression, nested}
+use Rattle.grammar.specs.Grammar.{Algebra, is_sum, is_product, index_sort, part_sort, closed, turn_built, turn_with, turn_on, on_turn, turn, chain, level, part, dotted, bracketed, pointed, named, mux_third, mux_second, muxed, kept, regged, inverted, factor, term, expression, nested}
 use Rattle.grammar.specs.Modules.{then_turn, word_turn, repeat}
 use Rattle.grammar.proofs.Chain.{Past, PastT, real_sum, real_product, Real, past_turn, past_factor, past_term, past_nested}
 
@@ -89,15 +89,15 @@ module _ {S A : Type 0} where
   told-on x (Word k st v c) f w h = h k st v c.at
   told-on x (Refused n p) f w h = w
 
-  turn_on : (x : S) (t : Taken) (f : ℕ → ℕ → ℕ → ℕ → Turn S A) → ToldW t → ((k st v nx : ℕ) → ToldT (f k st v nx)) → ToldT (word_turn x t f)
-  turn_on x (Word k st v c) f w h = h k st v c.at
-  turn_on x (Refused n p) f w h = w
+  turn_on_lem : (x : S) (t : Taken) (f : ℕ → ℕ → ℕ → ℕ → Turn S A) → ToldW t → ((k st v nx : ℕ) → ToldT (f k st v nx)) → ToldT (word_turn x t f)
+  turn_on_lem x (Word k st v c) f w h = h k st v c.at
+  turn_on_lem x (Refused n p) f w h = w
 
   pub told_word : (s : List ℕ) (at : ℕ) (x : S) (f : ℕ → ℕ → ℕ → ℕ → Outcome S A) → ((k st v nx : ℕ) → Told (f k st v nx)) → Told (on_word x (next_word s at) f)
   told_word s at x f h = told-on x (next_word s at) f (told_next s at) h
 
   pub turn_word : (s : List ℕ) (at : ℕ) (x : S) (f : ℕ → ℕ → ℕ → ℕ → Turn S A) → ((k st v nx : ℕ) → ToldT (f k st v nx)) → ToldT (word_turn x (next_word s at) f)
-  turn_word s at x f h = turn_on x (next_word s at) f (told_next s at) h
+  turn_word s at x f h = turn_on_lem x (next_word s at) f (told_next s at) h
 
   pub told_built : (e : ℕ) (b : Built S A) → ToldB b → Told (built_at e b)
   told_built e (built v x) h = tt
@@ -158,12 +158,12 @@ module _ {S A B : Type 0} (alg : Algebra S A B)
 
   module _ (o : ℕ) (among : ℕ → Bool) (real : Real among) (operand : ℕ → S → Outcome S A) (far : (at : ℕ) (x : S) → Past (length s) at (operand at x))
       (told : (at : ℕ) (x : S) → Told (operand at x)) where
-    turn-with : (v : A) (k st : ℕ) (r : Outcome S A) → Told r → ToldT (turnWith alg o v k st r)
+    turn-with : (v : A) (k st : ℕ) (r : Outcome S A) → Told r → ToldT (turn_with alg o v k st r)
     turn-with v k st (ok w e x) h = made e (alg.apply o k st v w x) (applies o k st v w x)
     turn-with v k st (no n p x) h = h
 
-    by_word : (v : A) (at : ℕ) (x : S) (t : Taken) → ToldW t → ToldT (turnOn alg s o among operand v at x t)
-    by_word v at x (Word k st v' c) w = turn_pick (among k) (turnWith alg o v k st (operand c.at x)) (last (ok v at x)) (turn-with v k st (operand c.at x) (told c.at x)) tt
+    by_word : (v : A) (at : ℕ) (x : S) (t : Taken) → ToldW t → ToldT (turn_on alg s o among operand v at x t)
+    by_word v at x (Word k st v' c) w = turn_pick (among k) (turn_with alg o v k st (operand c.at x)) (last (ok v at x)) (turn-with v k st (operand c.at x) (told c.at x)) tt
     by_word v at x (Refused n p) w = w
 
     one-turn : (v : A) (at : ℕ) (x : S) → ToldT (turn alg s o among operand v at x)
@@ -221,22 +221,22 @@ module _ {S A B : Type 0} (alg : Algebra S A B)
         (told_pick (eqb k 46) (pointed alg s o st e p nx x) (built_at e (alg.plain o st e x)) (told-pointed o st e p nx x)
         (told_built e (alg.plain o st e x) (plains o st e x))))
 
-    told-third : (o p r : ℕ) (a b : A) (at : ℕ) (x : S) → Told (muxThird alg s inner o p r a b at x)
-    unfolding muxThird
+    told-third : (o p r : ℕ) (a b : A) (at : ℕ) (x : S) → Told (mux_third alg s inner o p r a b at x)
+    unfolding mux_third
     told-third o p r a b at x =
         told_then (part alg s inner (part_sort o) r 41 at x) _ (told_part (part_sort o) r 41 at x) (λ c e x. told_built e (alg.choose o p a b c x) (chooses o p a b c x))
 
-    told-second : (o p r : ℕ) (a : A) (at : ℕ) (x : S) → Told (muxSecond alg s inner o p r a at x)
-    unfolding muxSecond
+    told-second : (o p r : ℕ) (a : A) (at : ℕ) (x : S) → Told (mux_second alg s inner o p r a at x)
+    unfolding mux_second
     told-second o p r a at x =
-        told_then (part alg s inner (part_sort o) r 44 at x) (muxThird alg s inner o p r a) (told_part (part_sort o) r 44 at x) (λ b e x. told-third o p r a b e x)
+        told_then (part alg s inner (part_sort o) r 44 at x) (mux_third alg s inner o p r a) (told_part (part_sort o) r 44 at x) (λ b e x. told-third o p r a b e x)
 
     told-muxed : (o p at : ℕ) (x : S) → Told (muxed alg s inner o p at x)
     unfolding muxed
     told-muxed o p at x =
         told_word s at x _ (λ k r v nx.
         told_pick (eqb k 40) _ (no 2 r x)
-        (told_then (part alg s inner (part_sort o) r 58 nx x) (muxSecond alg s inner o p r) (told_part (part_sort o) r 58 nx x) (λ a e x. told-second o p r a e x)) two)
+        (told_then (part alg s inner (part_sort o) r 58 nx x) (mux_second alg s inner o p r) (told_part (part_sort o) r 58 nx x) (λ a e x. told-second o p r a e x)) two)
 
     told-kept : (o p r : ℕ) (a : A) (at : ℕ) (x : S) → Told (kept alg s inner o p r a at x)
     unfolding kept

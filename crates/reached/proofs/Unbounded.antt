@@ -18,14 +18,14 @@ use Rattle.grammar.specs.Forms.{checked_text}
 use Rattle.judging.specs.Judging.{Meaning, valued, signal, nothing, meaning_of, mark_of, literal_of, logic_of, plain_of, opened_of, element_of, operator_of}
 use Rattle.judging.specs.Judging.{Verdict as Judgement, number, node, fault}
 use Rattle.judging.specs.Reading.{State, based}
-use Rattle.readers.specs.Readers.{expressionOf}
+use Rattle.readers.specs.Readers.{expression_of}
 use Rattle.trees.specs.Layout.{Elements, class_at, place_at, start_at, size_at, times_at}
 use Rattle.trees.specs.Layout.{elements_of as elements_in}
 use Rattle.parts.specs.Parts.{used_at, elements_at, constants_at, allows, one_more, raised, miscounted_from}
-use Rattle.simple.specs.Statements.{Target, element, missed, target_on, upward, gaveOf, one_of}
+use Rattle.simple.specs.Statements.{Target, element, missed, target_on, upward, gave_of, one_of}
 use Rattle.lists.specs.Lists.{is_known, fresh_of, type_of}
 use Rattle.declare.specs.Declarations.{width_of}
-use Rattle.unroll.specs.Loops.{headerOf, passed_of}
+use Rattle.unroll.specs.Loops.{header_of, passed_of}
 use Rattle.circuit.specs.StageFive.{Verdict}
 use Rattle.texts.specs.Stages.{Front, refused, unless}
 
@@ -93,57 +93,57 @@ element_name c n t st e x =
     (last (no 6 st x))
 
 module _ (s : List ℕ) where
-  unfoldable pub constantEnd : List ℕ → ℕ → ℕ → ℤ → ℕ → State → Outcome State (List ℕ)
-  constantEnd t st e z at y = on_word y (next_word s at) (λ k p v nx. pick (eqb k 59) (ok (with_constant t st e z) nx y) (no 2 p y))
+  unfoldable pub constant_end : List ℕ → ℕ → ℕ → ℤ → ℕ → State → Outcome State (List ℕ)
+  constant_end t st e z at y = on_word y (next_word s at) (λ k p v nx. pick (eqb k 59) (ok (with_constant t st e z) nx y) (no 2 p y))
 
-  unfoldable pub constantFrom : List ℕ → ℕ → ℕ → State → Outcome State (List ℕ)
-  constantFrom t st e x =
-      on_word x (next_word s e) (λ k p v nx. pick (eqb k 189) (and_then (expressionOf s t levels 1 nx x) (constantEnd t st e)) (no 2 p x))
+  unfoldable pub constant_from : List ℕ → ℕ → ℕ → State → Outcome State (List ℕ)
+  constant_from t st e x =
+      on_word x (next_word s e) (λ k p v nx. pick (eqb k 189) (and_then (expression_of s t levels 1 nx x) (constant_end t st e)) (no 2 p x))
 
   unfoldable pub constant_of : List ℕ → ℕ → ℕ → State → Outcome State (List ℕ)
   constant_of t st e x =
       pick (is_known (looked_up s t st (e - st))) (no 4 st x)
-      (pick (allows x.0 constants_at 32) (constantFrom t st e (one_more x.0 constants_at 32, x.1)) (no 6 st x))
+      (pick (allows x.0 constants_at 32) (constant_from t st e (one_more x.0 constants_at 32, x.1)) (no 6 st x))
 
-  unfoldable pub elementTurn : ℕ → ℕ → List ℕ → ℕ → State → Turn State (List ℕ)
-  elementTurn c n t at x =
+  unfoldable pub element_turn : ℕ → ℕ → List ℕ → ℕ → State → Turn State (List ℕ)
+  element_turn c n t at x =
       word_turn x (next_word s at) (λ k st v nx.
       pick (eqb k 1) (element_name c n t st nx x)
       (pick (eqb k 44) (more t nx x)
       (last (ok t at x))))
 
   unfoldable pub elements_of : ℕ → ℕ → List ℕ → ℕ → State → Outcome State (List ℕ)
-  elements_of c n t at x = repeat (elementTurn c n) (suc (length s)) t at x
+  elements_of c n t at x = repeat (element_turn c n) (suc (length s)) t at x
 
-  unfoldable pub listEnd : ℕ → List ℕ → ℕ → ℤ → ℕ → State → Outcome State (List ℕ)
-  listEnd c t first z at y =
+  unfoldable pub list_end : ℕ → List ℕ → ℕ → ℤ → ℕ → State → Outcome State (List ℕ)
+  list_end c t first z at y =
       on_word y (next_word s at) (λ k p v nx. pick (eqb k 59) (and_then (elements_of c (upward z) t first y) (λ u e y. ok u nx y)) (no 2 p y))
 
-  abbrev pub signalsFrom : ℕ → List ℕ → ℕ → State → Outcome (Unit {0}) ℕ → Outcome State (List ℕ)
-  signalsFrom c t first x (ok v at u) = and_then (type_of s t at x) (listEnd c t first)
-  signalsFrom c t first x (no n p u) = no n p x
+  abbrev pub signals_from : ℕ → List ℕ → ℕ → State → Outcome (Unit {0}) ℕ → Outcome State (List ℕ)
+  signals_from c t first x (ok v at u) = and_then (type_of s t at x) (list_end c t first)
+  signals_from c t first x (no n p u) = no n p x
 
   unfoldable pub signals_of : ℕ → List ℕ → ℕ → State → Outcome State (List ℕ)
-  signals_of c t first x = signalsFrom c t first x (fresh_of s t first)
+  signals_of c t first x = signals_from c t first x (fresh_of s t first)
 
   unfoldable pub item_of : ℕ → List ℕ → ℕ → ℕ → ℕ → State → Outcome State (List ℕ)
   item_of c t at st e x = pick (eqb c 0) (constant_of t st e x) (signals_of c t at x)
 
-  unfoldable pub itemTurn : ℕ → List ℕ → ℕ → State → Turn State (List ℕ)
-  itemTurn c t at x = word_turn x (next_word s at) (λ k st v nx. pick (eqb k 1) (turned (item_of c t at st nx x)) (last (ok t at x)))
+  unfoldable pub item_turn : ℕ → List ℕ → ℕ → State → Turn State (List ℕ)
+  item_turn c t at x = word_turn x (next_word s at) (λ k st v nx. pick (eqb k 1) (turned (item_of c t at st nx x)) (last (ok t at x)))
 
   unfoldable pub items_of : ℕ → List ℕ → ℕ → State → Outcome State (List ℕ)
-  items_of c t at x = repeat (itemTurn c) (suc (length s)) t at x
+  items_of c t at x = repeat (item_turn c) (suc (length s)) t at x
 
-  unfoldable pub sectionOf : ℕ → List ℕ → ℕ → State → Outcome State (List ℕ)
-  sectionOf c t at x = on_word x (next_word s at) (λ k st v nx. pick (eqb k (208 + c)) (items_of c t nx x) (ok t at x))
+  unfoldable pub section_of : ℕ → List ℕ → ℕ → State → Outcome State (List ℕ)
+  section_of c t at x = on_word x (next_word s at) (λ k st v nx. pick (eqb k (208 + c)) (items_of c t nx x) (ok t at x))
 
-  unfoldable pub sectionsOf : ℕ → ℕ → List ℕ → ℕ → State → Outcome State (List ℕ)
-  sectionsOf zero c t at x = ok t at x
-  sectionsOf (suc n) c t at x = and_then (sectionOf c t at x) (λ u e y. sectionsOf n (c + 1) u e y)
+  unfoldable pub sections_of : ℕ → ℕ → List ℕ → ℕ → State → Outcome State (List ℕ)
+  sections_of zero c t at x = ok t at x
+  sections_of (suc n) c t at x = and_then (section_of c t at x) (λ u e y. sections_of n (c + 1) u e y)
 
-  unfoldable pub declarationsOf : ℕ → State → Outcome State (List ℕ)
-  declarationsOf at x = sectionsOf 4 0 [] at x
+  unfoldable pub declarations_of : ℕ → State → Outcome State (List ℕ)
+  declarations_of at x = sections_of 4 0 [] at x
 
 -- ---- simple statements
 
@@ -151,25 +151,25 @@ module _ (s t : List ℕ) (d : ℕ) where
   unfoldable pub target_of : ℕ → ℕ → Target
   target_of st e = target_on (index_of s t d st e (0 ∷ [], 0))
 
-  unfoldable pub assignmentOf : ℕ → ℕ → State → Outcome State ℤ
-  assignmentOf k at x = and_then (signal_of s t d at x) (λ v e y. ok (pos 0) e (assigned_in y.0 k x.1 y.1, y.1))
+  unfoldable pub assignment_of : ℕ → ℕ → State → Outcome State ℤ
+  assignment_of k at x = and_then (signal_of s t d at x) (λ v e y. ok (pos 0) e (assigned_in y.0 k x.1 y.1, y.1))
 
-  unfoldable pub numberTurn : Bool → ℕ → ℤ → ℕ → State → Turn State ℤ
-  numberTurn g f v at x =
-      then_turn (expressionOf s t d 1 at x) (λ z e y. word_turn y (next_word s e) (λ k st v' nx.
-      pick (eqb k 59) (more (behind v) nx (gaveOf s t d g f v z y))
-      (pick (eqb k 93) (last (ok (behind v) nx (gaveOf s t d g f v z y)))
+  unfoldable pub number_turn : Bool → ℕ → ℤ → ℕ → State → Turn State ℤ
+  number_turn g f v at x =
+      then_turn (expression_of s t d 1 at x) (λ z e y. word_turn y (next_word s e) (λ k st v' nx.
+      pick (eqb k 59) (more (behind v) nx (gave_of s t d g f v z y))
+      (pick (eqb k 93) (last (ok (behind v) nx (gave_of s t d g f v z y)))
       (last (no 2 st y)))))
 
-  unfoldable pub numbersOf : Bool → ℕ → ℕ → State → Outcome State ℤ
-  numbersOf g f at x = repeat (numberTurn g f) (suc (length s)) (pos 0) at x
+  unfoldable pub numbers_of : Bool → ℕ → ℕ → State → Outcome State ℤ
+  numbers_of g f at x = repeat (number_turn g f) (suc (length s)) (pos 0) at x
 
-  abbrev pub countedOf : ℕ → ℕ → ℕ → ℤ → ℕ → State → Outcome State ℤ
-  countedOf f n at m e y =
-      pick (eqb (upward m) n) (numbersOf true f at y) (ok (pos 0) e (miscounted_from y.0 f (pick (eqb n 0) 1 n), y.1))
+  abbrev pub counted_of : ℕ → ℕ → ℕ → ℤ → ℕ → State → Outcome State ℤ
+  counted_of f n at m e y =
+      pick (eqb (upward m) n) (numbers_of true f at y) (ok (pos 0) e (miscounted_from y.0 f (pick (eqb n 0) 1 n), y.1))
 
   unfoldable pub list_of : ℕ → ℕ → ℕ → State → Outcome State ℤ
-  list_of f n at x = and_then (numbersOf false f at x) (countedOf f n at)
+  list_of f n at x = and_then (numbers_of false f at x) (counted_of f n at)
 
   unfoldable pub position_of : ℕ → ℕ → ℕ → State → Outcome State ℤ
   position_of f n at x = on_word x (next_word s at) (λ k q v nx. pick (eqb k 91) (list_of f n nx x) (one_of s t d f n at x))
@@ -179,17 +179,17 @@ module _ (s t : List ℕ) (d : ℕ) where
   placed_of st at x (valued z) = no 4 st x
   placed_of st at x (signal f n) = position_of f n at x
 
-  abbrev pub behindOf : State → Target → Outcome State ℤ
-  behindOf x (missed n p) = no n p x
-  behindOf x (element k at) =
-      on_word x (next_word s at) (λ w p v nx. pick (eqb w 189) (assignmentOf k nx x) (pick (eqb w 186) (position_of k 0 nx x) (no 2 p x)))
+  abbrev pub behind_of : State → Target → Outcome State ℤ
+  behind_of x (missed n p) = no n p x
+  behind_of x (element k at) =
+      on_word x (next_word s at) (λ w p v nx. pick (eqb w 189) (assignment_of k nx x) (pick (eqb w 186) (position_of k 0 nx x) (no 2 p x)))
 
-  unfoldable pub actOf : ℕ → ℕ → State → Outcome State ℤ
-  actOf st e x =
-      on_word x (next_word s e) (λ k p v nx. pick (eqb k 186) (placed_of st nx x (meaning_of s t st e)) (behindOf x (target_of st e)))
+  unfoldable pub act_of : ℕ → ℕ → State → Outcome State ℤ
+  act_of st e x =
+      on_word x (next_word s e) (λ k p v nx. pick (eqb k 186) (placed_of st nx x (meaning_of s t st e)) (behind_of x (target_of st e)))
 
-  unfoldable pub simpleOf : ℕ → ℕ → State → Outcome State ℤ
-  simpleOf st e x = pick (allows x.0 used_at 4096) (actOf st e (one_more x.0 used_at 4096, x.1)) (no 6 st x)
+  unfoldable pub simple_of : ℕ → ℕ → State → Outcome State ℤ
+  simple_of st e x = pick (allows x.0 used_at 4096) (act_of st e (one_more x.0 used_at 4096, x.1)) (no 6 st x)
 
 -- ---- FOR
 
@@ -198,44 +198,44 @@ with_loop t st e (pos m) = added t st (e - st) 3 m 0
 with_loop t st e (negsuc m) = added t st (e - st) 3 m 1
 
 module _ (s t : List ℕ) (body : List ℕ → ℕ → State → Outcome State ℤ) where
-  unfoldable pub roundOf : ℕ → ℕ → ℕ → ℕ → ℤ → State → Outcome State ℤ
-  roundOf p st e q z x = pick (allows x.0 used_at 4096) (body (with_loop t st e z) q (one_more x.0 used_at 4096, x.1)) (no 6 p x)
+  unfoldable pub round_of : ℕ → ℕ → ℕ → ℕ → ℤ → State → Outcome State ℤ
+  round_of p st e q z x = pick (allows x.0 used_at 4096) (body (with_loop t st e z) q (one_more x.0 used_at 4096, x.1)) (no 6 p x)
 
-  unfoldable pub turnsOf : ℕ → ℕ → ℕ → ℕ → ℕ → ℕ → ℤ → State → Outcome State ℤ
-  turnsOf p st e q r zero z x = ok (pos 0) r x
-  turnsOf p st e q r (suc n) z x = and_then (roundOf p st e q z x) (λ v at y. turnsOf p st e q r n (behind z) y)
+  unfoldable pub turns_of : ℕ → ℕ → ℕ → ℕ → ℕ → ℕ → ℤ → State → Outcome State ℤ
+  turns_of p st e q r zero z x = ok (pos 0) r x
+  turns_of p st e q r (suc n) z x = and_then (round_of p st e q z x) (λ v at y. turns_of p st e q r n (behind z) y)
 
-  abbrev pub closedBy : ℕ → ℕ → ℕ → ℤ → ℤ → ℕ → State → Outcome (Unit {0}) ℕ → Outcome State ℤ
-  closedBy p st e a b q x (ok l r u) = turnsOf p st e q r (rounds_of a b) a x
-  closedBy p st e a b q x (no n w u) = no n w x
+  abbrev pub closed_by : ℕ → ℕ → ℕ → ℤ → ℤ → ℕ → State → Outcome (Unit {0}) ℕ → Outcome State ℤ
+  closed_by p st e a b q x (ok l r u) = turns_of p st e q r (rounds_of a b) a x
+  closed_by p st e a b q x (no n w u) = no n w x
 
   unfoldable pub loop_of : ℕ → ℕ → ℕ → ℤ → ℤ → ℕ → State → Outcome State ℤ
-  loop_of p st e a b q x = closedBy p st e a b q x (passed_of s q)
+  loop_of p st e a b q x = closed_by p st e a b q x (passed_of s q)
 
-  unfoldable pub forFrom : ℕ → ℕ → ℕ → State → Outcome State ℤ
-  forFrom d p at x = and_then (headerOf s t d at x) (λ h q y. loop_of p h.first h.past h.low h.high q y)
+  unfoldable pub for_from : ℕ → ℕ → ℕ → State → Outcome State ℤ
+  for_from d p at x = and_then (header_of s t d at x) (λ h q y. loop_of p h.first h.past h.low h.high q y)
 
 module _ (s t : List ℕ) (d : ℕ) (loops : ℕ → ℕ → State → Outcome State ℤ) where
   abbrev pub again : Outcome State ℤ → Turn State ℤ
   again o = then_turn o (λ v e y. more (pos 0) e y)
 
-  unfoldable pub statementTurn : ℤ → ℕ → State → Turn State ℤ
-  statementTurn v at x =
+  unfoldable pub statement_turn : ℤ → ℕ → State → Turn State ℤ
+  statement_turn v at x =
       word_turn x (next_word s at) (λ k st v' nx.
-      pick (eqb k 1) (again (simpleOf s t d st nx x))
+      pick (eqb k 1) (again (simple_of s t d st nx x))
       (pick (eqb k 200) (again (loops st nx x))
       (pick (eqb k 59) (more (pos 0) nx x)
       (last (ok (pos 0) at x)))))
 
-  unfoldable pub statementsWith : ℕ → State → Outcome State ℤ
-  statementsWith at x = repeat statementTurn (suc (length s)) (pos 0) at x
+  unfoldable pub statements_with : ℕ → State → Outcome State ℤ
+  statements_with at x = repeat statement_turn (suc (length s)) (pos 0) at x
 
 unfoldable pub for_of : List ℕ → ℕ → List ℕ → ℕ → ℕ → State → Outcome State ℤ
 for_of s zero t p at x = no 6 p x
-for_of s (suc d) t p at x = forFrom s t (λ u q y. statementsWith s u d (for_of s d u) q y) d p at x
+for_of s (suc d) t p at x = for_from s t (λ u q y. statements_with s u d (for_of s d u) q y) d p at x
 
 abbrev pub statements_of : List ℕ → ℕ → List ℕ → ℕ → State → Outcome State ℤ
-statements_of s d t at x = statementsWith s t d (for_of s d t) at x
+statements_of s d t at x = statements_with s t d (for_of s d t) at x
 
 -- ---- a text, with a verdict of stage 5 over its elements
 
@@ -255,7 +255,7 @@ module _ (five : Elements → Verdict) where
   declared s b (no n p x) = refused n p
 
   unfoldable pub third : List ℕ → ℕ → ℕ → Front
-  third s at b = declared s b (declarationsOf s at (replicate 2588 0, 0))
+  third s at b = declared s b (declarations_of s at (replicate 2588 0, 0))
 
   abbrev pub checked : List ℕ → Outcome (Unit {0}) (Module (Unit {0}) (Unit {0})) → Front
   checked s (ok m at u) = third s m.declarations m.statements

@@ -17,7 +17,7 @@ use Rattle.grammar.specs.Outcome.{Outcome, ok, no, Turn, more, last}
 use Rattle.grammar.specs.Grammar.{Algebra, is_sum, is_product, turn, nested}
 use Rattle.grammar.proofs.Chain.{Past, PastT, Real, real_sum, real_product, past_turn, links_more, links_last, past_factor, past_term, past_part, past_nested}
 use Rattle.judging.specs.Reading.{State, reads}
-use Rattle.readers.specs.Readers.{inner_of, part_of, factorOf, termOf, expressionOf, sumTurnOf, sumsOf, productTurnOf, products_of}
+use Rattle.readers.specs.Readers.{inner_of, part_of, factor_of, term_of, expression_of, sum_turn_of, sums_of, product_turn_of, products_of}
 
 -- a word that is not the end was taken
 pub word_past : (s : List ℕ) (at k st v : ℕ) (c : Cursor) → Word k st v c ≡ next_word s at → (k ≡ 0 → ⊥) → length s - c.at < length s - at
@@ -36,11 +36,11 @@ gone s at r p w e y q =
     omega arith
 
 module _ (s t : List ℕ) (d o at : ℕ) (x : State) where
-  pub term_past : (w : ℤ) (e : ℕ) (y : State) → ok w e y ≡ termOf s t d o at x → length s - e < length s - at
-  term_past = gone s at (termOf s t d o at x) (past_term (reads s t) s (inner_of s t d) (past_nested (reads s t) s d) o at x)
+  pub term_past : (w : ℤ) (e : ℕ) (y : State) → ok w e y ≡ term_of s t d o at x → length s - e < length s - at
+  term_past = gone s at (term_of s t d o at x) (past_term (reads s t) s (inner_of s t d) (past_nested (reads s t) s d) o at x)
 
-  pub factor_past : (w : ℤ) (e : ℕ) (y : State) → ok w e y ≡ factorOf s t d o at x → length s - e < length s - at
-  factor_past = gone s at (factorOf s t d o at x) (past_factor (reads s t) s (inner_of s t d) (past_nested (reads s t) s d) o at x)
+  pub factor_past : (w : ℤ) (e : ℕ) (y : State) → ok w e y ≡ factor_of s t d o at x → length s - e < length s - at
+  factor_past = gone s at (factor_of s t d o at x) (past_factor (reads s t) s (inner_of s t d) (past_nested (reads s t) s d) o at x)
 
   pub inner_past : (m : Bool) (p : ℕ) (w : ℤ) (e : ℕ) (y : State) → ok w e y ≡ inner_of s t d m o p at x → length s - e < length s - at
   inner_past m p = gone s at (inner_of s t d m o p at x) (past_nested (reads s t) s d m o p at x)
@@ -57,37 +57,37 @@ module _ {S A B : Type 0} (alg : Algebra S A B) (s : List ℕ) (o : ℕ) (among 
       omega arith
 
 module _ (s t : List ℕ) (d o : ℕ) (v : ℤ) (at : ℕ) (x : State) where
-  pub sum_more : (w : ℤ) (e : ℕ) (y : State) → sumTurnOf s t d o v at x ≡ more w e y → (sumsOf s t d o v at x ≡ sumsOf s t d o w e y) × (length s - e < length s - at)
+  pub sum_more : (w : ℤ) (e : ℕ) (y : State) → sum_turn_of s t d o v at x ≡ more w e y → (sums_of s t d o v at x ≡ sums_of s t d o w e y) × (length s - e < length s - at)
   sum_more w e y q =
-      let far : (a : ℕ) (x : State) → Past (length s) a (termOf s t d o a x) = past_term (reads s t) s (inner_of s t d) (past_nested (reads s t) s d) o in (
-        links_more (reads s t) s o is_sum (termOf s t d o) real_sum far v w at e x y q,
-        nearer (reads s t) s o is_sum (termOf s t d o) real_sum far v w at e x y q,
+      let far : (a : ℕ) (x : State) → Past (length s) a (term_of s t d o a x) = past_term (reads s t) s (inner_of s t d) (past_nested (reads s t) s d) o in (
+        links_more (reads s t) s o is_sum (term_of s t d o) real_sum far v w at e x y q,
+        nearer (reads s t) s o is_sum (term_of s t d o) real_sum far v w at e x y q,
       )
 
-  pub sum_last : (r : Outcome State ℤ) → sumTurnOf s t d o v at x ≡ last r → sumsOf s t d o v at x ≡ r
+  pub sum_last : (r : Outcome State ℤ) → sum_turn_of s t d o v at x ≡ last r → sums_of s t d o v at x ≡ r
   sum_last r q =
-      let far : (a : ℕ) (x : State) → Past (length s) a (termOf s t d o a x) = past_term (reads s t) s (inner_of s t d) (past_nested (reads s t) s d) o in
-      links_last (reads s t) s o is_sum (termOf s t d o) real_sum far v at x r q
+      let far : (a : ℕ) (x : State) → Past (length s) a (term_of s t d o a x) = past_term (reads s t) s (inner_of s t d) (past_nested (reads s t) s d) o in
+      links_last (reads s t) s o is_sum (term_of s t d o) real_sum far v at x r q
 
-  pub product_more : (w : ℤ) (e : ℕ) (y : State) → productTurnOf s t d o v at x ≡ more w e y → (products_of s t d o v at x ≡ products_of s t d o w e y) × (length s - e < length s - at)
+  pub product_more : (w : ℤ) (e : ℕ) (y : State) → product_turn_of s t d o v at x ≡ more w e y → (products_of s t d o v at x ≡ products_of s t d o w e y) × (length s - e < length s - at)
   product_more w e y q =
-      let far : (a : ℕ) (x : State) → Past (length s) a (factorOf s t d o a x) = past_factor (reads s t) s (inner_of s t d) (past_nested (reads s t) s d) o in (
-        links_more (reads s t) s o is_product (factorOf s t d o) real_product far v w at e x y q,
-        nearer (reads s t) s o is_product (factorOf s t d o) real_product far v w at e x y q,
+      let far : (a : ℕ) (x : State) → Past (length s) a (factor_of s t d o a x) = past_factor (reads s t) s (inner_of s t d) (past_nested (reads s t) s d) o in (
+        links_more (reads s t) s o is_product (factor_of s t d o) real_product far v w at e x y q,
+        nearer (reads s t) s o is_product (factor_of s t d o) real_product far v w at e x y q,
       )
 
-  pub product_last : (r : Outcome State ℤ) → productTurnOf s t d o v at x ≡ last r → products_of s t d o v at x ≡ r
+  pub product_last : (r : Outcome State ℤ) → product_turn_of s t d o v at x ≡ last r → products_of s t d o v at x ≡ r
   product_last r q =
-      let far : (a : ℕ) (x : State) → Past (length s) a (factorOf s t d o a x) = past_factor (reads s t) s (inner_of s t d) (past_nested (reads s t) s d) o in
-      links_last (reads s t) s o is_product (factorOf s t d o) real_product far v at x r q
+      let far : (a : ℕ) (x : State) → Past (length s) a (factor_of s t d o a x) = past_factor (reads s t) s (inner_of s t d) (past_nested (reads s t) s d) o in
+      links_last (reads s t) s o is_product (factor_of s t d o) real_product far v at x r q
 
 -- with levels left, what stands within has a level fewer
-pub inner_some : (s t : List ℕ) (d o p at : ℕ) (x : State) → (d ≡ 0 → ⊥) → inner_of s t d false o p at x ≡ expressionOf s t (d - 1) o at x
+pub inner_some : (s t : List ℕ) (d o p at : ℕ) (x : State) → (d ≡ 0 → ⊥) → inner_of s t d false o p at x ≡ expression_of s t (d - 1) o at x
 unfolding nested
 inner_some s t zero o p at x nz = absurd (nz refl)
 inner_some s t (suc d) o p at x nz = rw sub-one refl
 
-pub negated_some : (s t : List ℕ) (d o p at : ℕ) (x : State) → (d ≡ 0 → ⊥) → inner_of s t d true o p at x ≡ factorOf s t (d - 1) o at x
+pub negated_some : (s t : List ℕ) (d o p at : ℕ) (x : State) → (d ≡ 0 → ⊥) → inner_of s t d true o p at x ≡ factor_of s t (d - 1) o at x
 unfolding nested
 negated_some s t zero o p at x nz = absurd (nz refl)
 negated_some s t (suc d) o p at x nz = rw sub-one refl

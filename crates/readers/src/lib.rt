@@ -6,7 +6,7 @@
 ghost use Rattle.std.specs.Prelude.{◌≡◌, true, false};
 ghost use Rattle.integers.specs.Integers.{num};
 ghost use Rattle.judging.specs.Reading.{seen, seen_step};
-ghost use Rattle.readers.specs.Readers.{inner_of, part_of, bracket_of, index_of, thirdOf, second_of, muxOf, rest_of, reg_of, invertedOf, factorOf, termOf, expressionOf, productTurnOf, products_of, sumTurnOf, sumsOf};
+ghost use Rattle.readers.specs.Readers.{inner_of, part_of, bracket_of, index_of, third_of, second_of, mux_of, rest_of, reg_of, inverted_of, factor_of, term_of, expression_of, product_turn_of, products_of, sum_turn_of, sums_of};
 
 use integers::Num;
 use judging::{Opened, Read, Step};
@@ -235,7 +235,7 @@ fn mux_third(
     from: Cursor,
     depth: usize,
 ) -> Read
-    ensures { seen result room.new ≡ thirdOf text.now names.now depth sort place at (num first) (num second) from.at (room.old, count) }
+    ensures { seen result room.new ≡ third_of text.now names.now depth sort place at (num first) (num second) from.at (room.old, count) }
 {
     match part(
         text,
@@ -322,7 +322,7 @@ fn mux(
     from: Cursor,
     depth: usize,
 ) -> Read
-    ensures { seen result room.new ≡ muxOf text.now names.now depth sort place from.at (room.old, count) }
+    ensures { seen result room.new ≡ mux_of text.now names.now depth sort place from.at (room.old, count) }
 {
     match from.next(text) {
         Taken::Word {
@@ -518,7 +518,7 @@ fn invert(
     from: Cursor,
     depth: usize,
 ) -> Read
-    ensures { seen result room.new ≡ invertedOf text.now names.now depth sort place from.at (room.old, count) }
+    ensures { seen result room.new ≡ inverted_of text.now names.now depth sort place from.at (room.old, count) }
 {
     match negated(text, names, room, count, sort, place, from, depth) {
         Read::Value {
@@ -548,7 +548,7 @@ fn factor(
     from: Cursor,
     depth: usize,
 ) -> Read
-    ensures { seen result room.new ≡ factorOf text.now names.now depth sort from.at (room.old, count) }
+    ensures { seen result room.new ≡ factor_of text.now names.now depth sort from.at (room.old, count) }
 {
     match from.next(text) {
         Taken::Word {
@@ -616,7 +616,7 @@ fn product_turn(
     from: Cursor,
     depth: usize,
 ) -> Step
-    ensures { seen_step result room.new ≡ productTurnOf text.now names.now depth sort (num left) from.at (room.old, count) }
+    ensures { seen_step result room.new ≡ product_turn_of text.now names.now depth sort (num left) from.at (room.old, count) }
 {
     match from.next(text) {
         Taken::Word {
@@ -742,7 +742,7 @@ fn term(
     from: Cursor,
     depth: usize,
 ) -> Read
-    ensures { seen result room.new ≡ termOf text.now names.now depth sort from.at (room.old, count) }
+    ensures { seen result room.new ≡ term_of text.now names.now depth sort from.at (room.old, count) }
 {
     match factor(text, names, room, count, sort, from, depth) {
         Read::Value {
@@ -773,7 +773,7 @@ fn sum_turn(
     from: Cursor,
     depth: usize,
 ) -> Step
-    ensures { seen_step result room.new ≡ sumTurnOf text.now names.now depth sort (num left) from.at (room.old, count) }
+    ensures { seen_step result room.new ≡ sum_turn_of text.now names.now depth sort (num left) from.at (room.old, count) }
 {
     match from.next(text) {
         Taken::Word {
@@ -851,7 +851,7 @@ fn sums(
     from: Cursor,
     depth: usize,
 ) -> Read
-    ensures { seen result room.new ≡ sumsOf text.now names.now depth sort (num first) from.at (room.old, count) }
+    ensures { seen result room.new ≡ sums_of text.now names.now depth sort (num first) from.at (room.old, count) }
 {
     let mut left = first;
     let mut n = count;
@@ -899,7 +899,7 @@ pub fn expression(
     from: Cursor,
     depth: usize,
 ) -> Read
-    ensures { seen result room.new ≡ expressionOf text.now names.now depth sort from.at (room.old, count) }
+    ensures { seen result room.new ≡ expression_of text.now names.now depth sort from.at (room.old, count) }
 {
     match term(text, names, room, count, sort, from, depth) {
         Read::Value {

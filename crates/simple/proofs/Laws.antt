@@ -21,58 +21,58 @@ use Rattle.grammar.proofs.Chain.{Past, Near, PastT, other, past_expression, past
 use Rattle.grammar.proofs.Turns.{past_near, near_from, near_then, near_pick, turn_then, turn_pick, near_word, turn_word, repeat_more, repeat_last, repeat_falls, near_repeat}
 use Rattle.judging.specs.Judging.{Meaning, valued, signal, nothing, meaning_of}
 use Rattle.judging.specs.Reading.{State, reads}
-use Rattle.readers.specs.Readers.{inner_of, index_of, expressionOf}
+use Rattle.readers.specs.Readers.{inner_of, index_of, expression_of}
 use Rattle.parts.specs.Parts.{used_at, allows, one_more, positioned_in, miscounted_from}
 use Rattle.parts.proofs.Runs.{none_more}
-use Rattle.simple.specs.Statements.{Target, element, missed, target_on, upward, target_of, assignmentOf, gaveOf, numberTurn, numbersOf, list_of, one_of, position_of, placed_of, behindOf, actOf, simpleOf}
+use Rattle.simple.specs.Statements.{Target, element, missed, target_on, upward, target_of, assignment_of, gave_of, number_turn, numbers_of, list_of, one_of, position_of, placed_of, behind_of, act_of, simple_of}
 
 module _ (s t : List ℕ) (d : ℕ) where
-  pub near_expression : (o from at : ℕ) (x : State) → from ≤ at → Near from (expressionOf s t d o at x)
+  pub near_expression : (o from at : ℕ) (x : State) → from ≤ at → Near from (expression_of s t d o at x)
   near_expression o from at x l =
-      near_from from at (expressionOf s t d o at x) l
-      (past_near (length s) at (expressionOf s t d o at x) (past_expression (reads s t) s (inner_of s t d) (past_nested (reads s t) s d) o at x))
+      near_from from at (expression_of s t d o at x) l
+      (past_near (length s) at (expression_of s t d o at x) (past_expression (reads s t) s (inner_of s t d) (past_nested (reads s t) s d) o at x))
 
-  near-assignment : (k from at : ℕ) (x : State) → from ≤ at → Near from (assignmentOf s t d k at x)
-  unfolding assignmentOf
-  near-assignment k from at x l = near_then from (expressionOf s t d 2 at x) _ (near_expression 2 from at x l) (λ v e y h. h)
+  near-assignment : (k from at : ℕ) (x : State) → from ≤ at → Near from (assignment_of s t d k at x)
+  unfolding assignment_of
+  near-assignment k from at x l = near_then from (expression_of s t d 2 at x) _ (near_expression 2 from at x l) (λ v e y h. h)
 
-  far : (g : Bool) (f : ℕ) (v : ℤ) (at : ℕ) (x : State) → PastT (length s) at (numberTurn s t d g f v at x)
-  unfolding numberTurn
+  far : (g : Bool) (f : ℕ) (v : ℤ) (at : ℕ) (x : State) → PastT (length s) at (number_turn s t d g f v at x)
+  unfolding number_turn
   far g f v at x =
       let n = length s in
-      turn_then n at (expressionOf s t d 1 at x) _ (near_expression 1 at at x (omega arith)) (λ z e y l.
+      turn_then n at (expression_of s t d 1 at x) _ (near_expression 1 at at x (omega arith)) (λ z e y l.
       turn_word s at e y _ l (λ k st v' nx w.
-      turn_pick n at (eqb k 59) (more (nextℤ v) nx (gaveOf s t d g f v z y)) _ (λ b. w (other k 59 (λ q. omega arith) b)) (λ b.
-      turn_pick n at (eqb k 93) (last (ok (nextℤ v) nx (gaveOf s t d g f v z y))) (last (no 2 st y))
+      turn_pick n at (eqb k 59) (more (nextℤ v) nx (gave_of s t d g f v z y)) _ (λ b. w (other k 59 (λ q. omega arith) b)) (λ b.
+      turn_pick n at (eqb k 93) (last (ok (nextℤ v) nx (gave_of s t d g f v z y))) (last (no 2 st y))
       (λ b. let h : (at < nx) × (at < n) = w (other k 93 (λ q. omega arith) b) in omega arith) (λ b. tt))))
 
   -- the numbers from a turn on
   abbrev pub rest : Bool → ℕ → ℤ → ℕ → State → Outcome State ℤ
-  rest g f v at x = repeat (numberTurn s t d g f) (suc (length s)) v at x
+  rest g f v at x = repeat (number_turn s t d g f) (suc (length s)) v at x
 
-  pub numbers_more : (g : Bool) (f : ℕ) (v w : ℤ) (at e : ℕ) (x y : State) → numberTurn s t d g f v at x ≡ more w e y → rest g f v at x ≡ rest g f w e y
-  numbers_more g f = repeat_more s (numberTurn s t d g f) (far g f)
+  pub numbers_more : (g : Bool) (f : ℕ) (v w : ℤ) (at e : ℕ) (x y : State) → number_turn s t d g f v at x ≡ more w e y → rest g f v at x ≡ rest g f w e y
+  numbers_more g f = repeat_more s (number_turn s t d g f) (far g f)
 
-  pub numbers_last : (g : Bool) (f : ℕ) (v : ℤ) (at : ℕ) (x : State) (r : Outcome State ℤ) → numberTurn s t d g f v at x ≡ last r → rest g f v at x ≡ r
-  numbers_last g f = repeat_last s (numberTurn s t d g f) (far g f)
+  pub numbers_last : (g : Bool) (f : ℕ) (v : ℤ) (at : ℕ) (x : State) (r : Outcome State ℤ) → number_turn s t d g f v at x ≡ last r → rest g f v at x ≡ r
+  numbers_last g f = repeat_last s (number_turn s t d g f) (far g f)
 
-  pub numbers_falls : (g : Bool) (f : ℕ) (v w : ℤ) (at e : ℕ) (x y : State) → numberTurn s t d g f v at x ≡ more w e y → length s - e < length s - at
-  numbers_falls g f = repeat_falls s (numberTurn s t d g f) (far g f)
+  pub numbers_falls : (g : Bool) (f : ℕ) (v w : ℤ) (at e : ℕ) (x y : State) → number_turn s t d g f v at x ≡ more w e y → length s - e < length s - at
+  numbers_falls g f = repeat_falls s (number_turn s t d g f) (far g f)
 
-  near-numbers : (g : Bool) (f from at : ℕ) (x : State) → from ≤ at → Near from (numbersOf s t d g f at x)
-  unfolding numbersOf
-  near-numbers g f from at x l = near_repeat s (numberTurn s t d g f) (far g f) (suc (length s)) (pos 0) from at x l
+  near-numbers : (g : Bool) (f from at : ℕ) (x : State) → from ≤ at → Near from (numbers_of s t d g f at x)
+  unfolding numbers_of
+  near-numbers g f from at x l = near_repeat s (number_turn s t d g f) (far g f) (suc (length s)) (pos 0) from at x l
 
   near-list : (f n from at : ℕ) (x : State) → from ≤ at → Near from (list_of s t d f n at x)
   unfolding list_of
   near-list f n from at x l =
-      near_then from (numbersOf s t d false f at x) _ (near-numbers false f from at x l) (λ m e y h.
-      near_pick from (eqb (upward m) n) (numbersOf s t d true f at y) (ok (pos 0) e (miscounted_from y.0 f (pick (eqb n 0) 1 n), y.1))
+      near_then from (numbers_of s t d false f at x) _ (near-numbers false f from at x l) (λ m e y h.
+      near_pick from (eqb (upward m) n) (numbers_of s t d true f at y) (ok (pos 0) e (miscounted_from y.0 f (pick (eqb n 0) 1 n), y.1))
       (λ b. near-numbers true f from at y l) (λ b. h))
 
   near-one : (f n from at : ℕ) (x : State) → from ≤ at → Near from (one_of s t d f n at x)
   unfolding one_of
-  near-one f n from at x l = near_then from (expressionOf s t d 1 at x) _ (near_expression 1 from at x l) (λ z e y h. h)
+  near-one f n from at x l = near_then from (expression_of s t d 1 at x) _ (near_expression 1 from at x l) (λ z e y h. h)
 
   near-position : (f n from at : ℕ) (x : State) → from ≤ at → Near from (position_of s t d f n at x)
   unfolding position_of
@@ -91,11 +91,11 @@ module _ (s t : List ℕ) (d : ℕ) where
   NearT from (element k at) = from ≤ at
   NearT from (missed n p) = Unit {0}
 
-  near-behind : (from : ℕ) (x : State) (a : Target) → NearT from a → Near from (behindOf s t d x a)
+  near-behind : (from : ℕ) (x : State) (a : Target) → NearT from a → Near from (behind_of s t d x a)
   near-behind from x (missed n p) l = tt
   near-behind from x (element k at) l =
       near_word s from at x _ l (λ w p v nx f.
-      near_pick from (eqb w 189) (assignmentOf s t d k nx x) _
+      near_pick from (eqb w 189) (assignment_of s t d k nx x) _
       (λ b. let h : (from < nx) × (from < length s) = f (other w 189 (λ z. omega arith) b) in near-assignment k from nx x (omega arith))
       (λ b. near_pick from (eqb w 186) (position_of s t d k 0 nx x) (no 2 p x)
       (λ b. let h : (from < nx) × (from < length s) = f (other w 186 (λ z. omega arith) b) in near-position k 0 from nx x (omega arith)) (λ b. tt)))
@@ -104,8 +104,8 @@ module _ (s t : List ℕ) (d : ℕ) where
   near_on from (ok v at y) p = omega arith
   near_on from (no n q y) p = tt
 
-  near-act : (st e from : ℕ) (x : State) → from < e → from < length s → Near (from + 1) (actOf s t d st e x)
-  unfolding actOf target_of
+  near-act : (st e from : ℕ) (x : State) → from < e → from < length s → Near (from + 1) (act_of s t d st e x)
+  unfolding act_of target_of
   near-act st e from x l r =
       near_word s (from + 1) e x _ (omega arith) (λ k p v nx w.
       near_pick (from + 1) (eqb k 186) (placed_of s t d st nx x (meaning_of s t st e)) _
@@ -114,31 +114,31 @@ module _ (s t : List ℕ) (d : ℕ) where
       (near_on from (index_of s t d 2 st e (0 ∷ [], 0)) (past_named (reads s t) s (inner_of s t d) (past_nested (reads s t) s d) 2 st e from (0 ∷ [], 0) l r))))
 
   -- a statement whose name ends past a place ends past it
-  pub near_simple : (st e from : ℕ) (x : State) → from < e → from < length s → Near (from + 1) (simpleOf s t d st e x)
-  unfolding simpleOf
+  pub near_simple : (st e from : ℕ) (x : State) → from < e → from < length s → Near (from + 1) (simple_of s t d st e x)
+  unfolding simple_of
   near_simple st e from x l r =
-      near_pick (from + 1) (allows x.0 used_at 4096) (actOf s t d st e (one_more x.0 used_at 4096, x.1)) (no 6 st x)
+      near_pick (from + 1) (allows x.0 used_at 4096) (act_of s t d st e (one_more x.0 used_at 4096, x.1)) (no 6 st x)
       (λ b. near-act st e from (one_more x.0 used_at 4096, x.1) l r) (λ b. tt)
 
   -- ---- what the code did, as the definitions say it
 
   module _ (g : Bool) (f : ℕ) (v z w : ℤ) (at e : ℕ) (x y : State) (k st v' : ℕ) (p : Cursor) (l : List ℕ)
-      (read : ok z e y ≡ expressionOf s t d 1 at x) (taken : Word k st v' p ≡ next_word s e)
+      (read : ok z e y ≡ expression_of s t d 1 at x) (taken : Word k st v' p ≡ next_word s e)
       (gave : l ≡ pick g (positioned_in y.0 (f + upward v) z) y.0) (stepped : w ≡ nextℤ v) where
-    pub number_goes : k ≡ 59 → more w p.at (l, y.1) ≡ numberTurn s t d g f v at x
-    unfolding numberTurn
+    pub number_goes : k ≡ 59 → more w p.at (l, y.1) ≡ number_turn s t d g f v at x
+    unfolding number_turn
     number_goes h = rw (← read, ← taken) (simp (eq-eqb _ _ h, gave, stepped))
 
-    pub number_ends : (k ≡ 59 → ⊥) → k ≡ 93 → last (ok w p.at (l, y.1)) ≡ numberTurn s t d g f v at x
-    unfolding numberTurn
+    pub number_ends : (k ≡ 59 → ⊥) → k ≡ 93 → last (ok w p.at (l, y.1)) ≡ number_turn s t d g f v at x
+    unfolding number_turn
     number_ends n h = rw (← read, ← taken) (simp (ne_eqb _ _ n, eq-eqb _ _ h, gave, stepped))
 
-  pub one_goes : (f n : ℕ) (z : ℤ) (at e : ℕ) (x y : State) (l : List ℕ) → ok z e y ≡ expressionOf s t d 1 at x → n ≡ 0
+  pub one_goes : (f n : ℕ) (z : ℤ) (at e : ℕ) (x y : State) (l : List ℕ) → ok z e y ≡ expression_of s t d 1 at x → n ≡ 0
       → l ≡ positioned_in y.0 (f + 0) z → ok (pos 0) e (l, y.1) ≡ one_of s t d f n at x
   unfolding one_of
   one_goes f n z at e x y l read h put = rw (← read) (simp (eq-eqb _ _ h, put, add-zero))
 
   pub simple_none : (st e : ℕ) (x : State) (l : List ℕ) (b : Bool) → b ≡ false → b ≡ allows x.0 used_at 4096 → l ≡ one_more x.0 used_at 4096
-      → no 6 st (l, x.1) ≡ simpleOf s t d st e x
-  unfolding simpleOf
+      → no 6 st (l, x.1) ≡ simple_of s t d st e x
+  unfolding simple_of
   simple_none st e x l b n a q = rw (q ∙ none_more x.0 used_at 4096 (sym a ∙ n)) (simp (sym a ∙ n))

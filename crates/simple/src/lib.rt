@@ -7,7 +7,7 @@ ghost use Rattle.integers.specs.Integers.{num};
 ghost use Rattle.judging.specs.Judging.{meaning_of};
 ghost use Rattle.judging.specs.Reading.{seen, seen_step};
 ghost use Rattle.parts.specs.Parts.{positioned_in};
-ghost use Rattle.simple.specs.Statements.{aimed, upward, target_of, assignmentOf, numberTurn, numbersOf, list_of, one_of, position_of, placed_of, behindOf, actOf, simpleOf};
+ghost use Rattle.simple.specs.Statements.{aimed, upward, target_of, assignment_of, number_turn, numbers_of, list_of, one_of, position_of, placed_of, behind_of, act_of, simple_of};
 
 use integers::Num;
 use judging::{Meant, Read, Step};
@@ -59,7 +59,7 @@ fn assignment(
     from: Cursor,
     depth: usize,
 ) -> Read
-    ensures { seen result room.new ≡ assignmentOf text.now names.now depth element from.at (room.old, count) }
+    ensures { seen result room.new ≡ assignment_of text.now names.now depth element from.at (room.old, count) }
 {
     match readers::expression(text, names, room, count, 2, from, depth) {
         Read::Value {
@@ -117,7 +117,7 @@ fn number_turn(
     from: Cursor,
     depth: usize,
 ) -> Step
-    ensures { seen_step result room.new ≡ numberTurn text.now names.now depth on first (num v) from.at (room.old, count) }
+    ensures { seen_step result room.new ≡ number_turn text.now names.now depth on first (num v) from.at (room.old, count) }
 {
     match readers::expression(text, names, room, count, 1, from, depth) {
         Read::Value {
@@ -182,7 +182,7 @@ fn numbers(
     from: Cursor,
     depth: usize,
 ) -> Read
-    ensures { seen result room.new ≡ numbersOf text.now names.now depth on first from.at (room.old, count) }
+    ensures { seen result room.new ≡ numbers_of text.now names.now depth on first from.at (room.old, count) }
 {
     let mut v = Num::Up(0);
     let mut at = from.at;
@@ -397,7 +397,7 @@ fn behind(
     aim: Aim,
     depth: usize,
 ) -> Read
-    ensures { seen result room.new ≡ behindOf text.now names.now depth (room.old, count) (aimed aim) }
+    ensures { seen result room.new ≡ behind_of text.now names.now depth (room.old, count) (aimed aim) }
 {
     match aim {
         Aim::Element { element, next } => match next.next(text) {
@@ -443,7 +443,7 @@ fn act(
     end: Cursor,
     depth: usize,
 ) -> Read
-    ensures { seen result room.new ≡ actOf text.now names.now depth start end.at (room.old, count) }
+    ensures { seen result room.new ≡ act_of text.now names.now depth start end.at (room.old, count) }
 {
     match end.next(text) {
         Taken::Word {
@@ -482,7 +482,7 @@ pub fn simple(
     end: Cursor,
     depth: usize,
 ) -> Read
-    ensures { seen result room.new ≡ simpleOf text.now names.now depth start end.at (room.old, count) }
+    ensures { seen result room.new ≡ simple_of text.now names.now depth start end.at (room.old, count) }
 {
     if parts::one_more(room, 2585, 4096) {
         return act(text, names, room, count, start, end, depth);

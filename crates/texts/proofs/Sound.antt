@@ -11,7 +11,7 @@ use Rattle.grammar.specs.Outcome.{Outcome as Read, ok, no, levels}
 use Rattle.grammar.specs.Modules.{Module}
 use Rattle.grammar.specs.Forms.{checked_text}
 use Rattle.judging.specs.Reading.{State}
-use Rattle.declare.specs.Declarations.{declarationsOf}
+use Rattle.declare.specs.Declarations.{declarations_of}
 use Rattle.unroll.specs.Loops.{statements_of}
 use Rattle.trees.specs.Layout.{elements_of}
 use Rattle.circuit.specs.StageFive.{Verdict, stage_five}
@@ -40,7 +40,7 @@ sound_fourth s at t x = go (statements_of s levels t at x)
 
 sound_third : (s : List ℕ) (at b : ℕ) → Sound (third s at b)
 unfolding third
-sound_third s at b = go (declarationsOf s at (replicate 2588 0, 0))
+sound_third s at b = go (declarations_of s at (replicate 2588 0, 0))
   where
     go : (o : Read State (List ℕ)) → Sound (declared s b o)
     go (ok t e y) = sound_fourth s b t y

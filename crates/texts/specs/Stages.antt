@@ -5,7 +5,7 @@ use Rattle.grammar.specs.Outcome.{Outcome, ok, no, levels}
 use Rattle.grammar.specs.Modules.{Module}
 use Rattle.grammar.specs.Forms.{checked_text}
 use Rattle.judging.specs.Reading.{State}
-use Rattle.declare.specs.Declarations.{declarationsOf}
+use Rattle.declare.specs.Declarations.{declarations_of}
 use Rattle.unroll.specs.Loops.{statements_of}
 use Rattle.trees.specs.Layout.{elements_of}
 use Rattle.circuit.specs.StageFive.{Verdict, stage_five}
@@ -42,7 +42,7 @@ declared s b (no n p x) = refused n p
 
 -- (3) the declarations from a place on. Nothing is declared before them: the memory is 2,588 zeros and has no tree node
 unfoldable pub third : List ℕ → ℕ → ℕ → Front
-third s at b = declared s b (declarationsOf s at (replicate 2588 0, 0))
+third s at b = declared s b (declarations_of s at (replicate 2588 0, 0))
 
 -- (2) of a text of the grammar, the declarations and the statements from where they start
 abbrev pub checked : List ℕ → Outcome (Unit {0}) (Module (Unit {0}) (Unit {0})) → Front

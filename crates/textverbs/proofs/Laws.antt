@@ -27,7 +27,7 @@ use Rattle.question.specs.declared.Asked.TheVariants.{Refused as Refuses}
 use Rattle.askcall.specs.declared.Graded.{Graded}
 use Rattle.askcall.specs.Asking.{grade_of, questioned, graded_of, Asks}
 use Rattle.verbs.proofs.Files.{bytes_printed, refusal_printed}
-use Rattle.textverbs.specs.Answers.{compileAnswer, fitAnswer, gradeLine, askAnswer}
+use Rattle.textverbs.specs.Answers.{compile_answer, fit_answer, grade_line, ask_answer}
 
 -- ---- compile and fit
 
@@ -65,12 +65,12 @@ module _ (s out room : List ℕ) (a : Compiled) (after y : List ℕ) (h : 7154 �
   left-file : after ≡ left (filed (whole_of s)) out
   left-file = leaves_it compiled_as of_compiled file_of s out room a after y h k d
 
-  pub compile_given : (len : ℕ) → a ≡ File len → length after ≡ length out → Wrote out 0 (compileAnswer s) after len
-  unfolding compileAnswer
+  pub compile_given : (len : ℕ) → a ≡ File len → length after ≡ length out → Wrote out 0 (compile_answer s) after len
+  unfolding compile_answer
   compile_given len e z = bytes_printed (filed (whole_of s)) out after len (sym (ap of_compiled e) ∙ told-file) left-file z
 
-  pub compile_refused : (number place : ℕ) (last : List ℕ) (n : ℕ) → a ≡ Refused number place → Wrote after 0 (refusal_line number place) last n → Wrote out 0 (compileAnswer s) last n
-  unfolding compileAnswer
+  pub compile_refused : (number place : ℕ) (last : List ℕ) (n : ℕ) → a ≡ Refused number place → Wrote after 0 (refusal_line number place) last n → Wrote out 0 (compile_answer s) last n
+  unfolding compile_answer
   compile_refused number place last n e w = refusal_printed (filed (whole_of s)) out after number place last n (sym (ap of_compiled e) ∙ told-file) left-file w
 
 module _ (s out room : List ℕ) (a : Fitted) (after y : List ℕ) (h : 7154 ≤ length out) (k : 65536 ≤ length room) (d : Fits s out room a after y) where
@@ -80,12 +80,12 @@ module _ (s out room : List ℕ) (a : Fitted) (after y : List ℕ) (h : 7154 ≤
   left-lines : after ≡ left (lined (whole_of s)) out
   left-lines = leaves_it fitted_as of_fitted fit_lines s out room a after y h k d
 
-  pub fit_given : (len : ℕ) → a ≡ Lines len → length after ≡ length out → Wrote out 0 (fitAnswer s) after len
-  unfolding fitAnswer
+  pub fit_given : (len : ℕ) → a ≡ Lines len → length after ≡ length out → Wrote out 0 (fit_answer s) after len
+  unfolding fit_answer
   fit_given len e z = bytes_printed (lined (whole_of s)) out after len (sym (ap of_fitted e) ∙ told-lines) left-lines z
 
-  pub fit_refused : (number place : ℕ) (last : List ℕ) (n : ℕ) → a ≡ Misfits number place → Wrote after 0 (refusal_line number place) last n → Wrote out 0 (fitAnswer s) last n
-  unfolding fitAnswer
+  pub fit_refused : (number place : ℕ) (last : List ℕ) (n : ℕ) → a ≡ Misfits number place → Wrote after 0 (refusal_line number place) last n → Wrote out 0 (fit_answer s) last n
+  unfolding fit_answer
   fit_refused number place last n e w = refusal_printed (lined (whole_of s)) out after number place last n (sym (ap of_fitted e) ∙ told-lines) left-lines w
 
 -- ---- ask
@@ -95,7 +95,7 @@ unfolding graded_of
 ask_lent s pin product room k = ap (λ (b : Bool). pick b (questioned pin product (whole_of s)) (Refuses 13 0)) (le-leb _ _ k)
 
 pub ask_printed : (s : List ℕ) (pin product : ℕ) (room : List ℕ) (a b : Graded) (y : List ℕ) → 65536 ≤ length room → Asks s pin product room a y → a ≡ b
-    → gradeLine (grade_of b) ≡ askAnswer s pin product
-unfolding askAnswer
+    → grade_line (grade_of b) ≡ ask_answer s pin product
+unfolding ask_answer
 ask_printed s pin product room a b y k d e =
-    ap gradeLine (ap grade_of (sym e) ∙ d.answers ∙ ask_lent s pin product (length room) k)
+    ap grade_line (ap grade_of (sym e) ∙ d.answers ∙ ask_lent s pin product (length room) k)

@@ -12,18 +12,18 @@ use Rattle.askcall.specs.Asking.{questioned}
 use Rattle.verbs.specs.Printed.{printed}
 
 -- the compile program: the fuse file as it is
-unfoldable pub compileAnswer : List ℕ → List ℕ
-compileAnswer s = printed (λ file. file) (filed (whole_of s))
+unfoldable pub compile_answer : List ℕ → List ℕ
+compile_answer s = printed (λ file. file) (filed (whole_of s))
 
 -- the fit program: the lines as they are, none for a text without OUT
-unfoldable pub fitAnswer : List ℕ → List ℕ
-fitAnswer s = printed (λ lines. lines) (lined (whole_of s))
+unfoldable pub fit_answer : List ℕ → List ℕ
+fit_answer s = printed (λ lines. lines) (lined (whole_of s))
 
 -- what a question comes to: the digit of its grade and LF, or a refusal's line
-abbrev pub gradeLine : Asked → List ℕ
-gradeLine (Verdict grade) = (48 + grade) ∷ text "\n"
-gradeLine (Refused number place) = refusal_line number place
+abbrev pub grade_line : Asked → List ℕ
+grade_line (Verdict grade) = (48 + grade) ∷ text "\n"
+grade_line (Refused number place) = refusal_line number place
 
 -- the ask program: the grade of a product, by its number, for the OUT at a pin
-unfoldable pub askAnswer : List ℕ → ℕ → ℕ → List ℕ
-askAnswer s pin product = gradeLine (questioned pin product (whole_of s))
+unfoldable pub ask_answer : List ℕ → ℕ → ℕ → List ℕ
+ask_answer s pin product = grade_line (questioned pin product (whole_of s))

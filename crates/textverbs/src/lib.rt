@@ -4,7 +4,7 @@
 
 ghost use Rattle.std.specs.Prelude.{◌≡◌, ℕ, ◌≤◌, length, replicate};
 ghost use Rattle.fusetext.specs.Put.{Wrote};
-ghost use Rattle.textverbs.specs.Answers.{compileAnswer, fitAnswer, askAnswer};
+ghost use Rattle.textverbs.specs.Answers.{compile_answer, fit_answer, ask_answer};
 
 use fusetext::field::put_text;
 use kinvlopt::{Compiled, Fitted, Graded};
@@ -13,7 +13,7 @@ use kinvlopt::{Compiled, Fitted, Graded};
 pub fn compile_answer(text: &[u8], out: &mut [u8], room: &mut [u8]) -> usize
     requires in_bounds { 7154 ≤ length out.old }
     requires in_bounds_2 { 65536 ≤ length room.old }
-    ensures wrote { Wrote out.old 0 (compileAnswer text.now) out.new result }
+    ensures wrote { Wrote out.old 0 (compile_answer text.now) out.new result }
     ensures room_after { room.new ≡ replicate (length room.old) 0 }
 {
     let compiled = kinvlopt::compile(text, out, room);
@@ -27,7 +27,7 @@ pub fn compile_answer(text: &[u8], out: &mut [u8], room: &mut [u8]) -> usize
 pub fn fit_answer(text: &[u8], out: &mut [u8], room: &mut [u8]) -> usize
     requires in_bounds { 7154 ≤ length out.old }
     requires in_bounds_2 { 65536 ≤ length room.old }
-    ensures wrote { Wrote out.old 0 (fitAnswer text.now) out.new result }
+    ensures wrote { Wrote out.old 0 (fit_answer text.now) out.new result }
     ensures room_after { room.new ≡ replicate (length room.old) 0 }
 {
     let fitted = kinvlopt::fit(text, out, room);
@@ -41,7 +41,7 @@ pub fn fit_answer(text: &[u8], out: &mut [u8], room: &mut [u8]) -> usize
 pub fn ask_answer(text: &[u8], pin: usize, product: usize, out: &mut [u8], room: &mut [u8]) -> usize
     requires in_bounds { 42 ≤ length out.old }
     requires in_bounds_2 { 65536 ≤ length room.old }
-    ensures wrote { Wrote out.old 0 (askAnswer text.now pin product) out.new result }
+    ensures wrote { Wrote out.old 0 (ask_answer text.now pin product) out.new result }
     ensures room_after { room.new ≡ replicate (length room.old) 0 }
 {
     let graded = kinvlopt::ask(text, pin, product, room);

@@ -18,18 +18,18 @@ use Rattle.integers.specs.Integers.{nextℤ}
 use Rattle.grammar.specs.Outcome.{Outcome, ok, no, Built, built, bad, more, last, and_then, built_at, after_built, and_built}
 use Rattle.grammar.specs.Grammar.{Algebra, named, bracketed, pointed, part, dotted, factor, nested, index_sort}
 use Rattle.grammar.specs.Trees.{Tree, plain, trees, eval, parsed}
-use Rattle.grammar.specs.Modules.{numberTurn as treeNumber, numbers, positioned, aimed, simple}
+use Rattle.grammar.specs.Modules.{number_turn as treeNumber, numbers, positioned, aimed, simple}
 use Rattle.grammar.specs.Forms.{Numbers, no_numbers, and_number, Statements, tree_forms}
 use Rattle.grammar.proofs.Agree.{Agree, agree_nested, reads_meaning}
 use Rattle.grammar.proofs.Chain.{Past, past_nested}
 use Rattle.judging.specs.Judging.{Meaning, valued, signal, nothing, meaning_of}
 use Rattle.judging.specs.Reading.{State, reads}
-use Rattle.readers.specs.Readers.{index_of, expressionOf}
+use Rattle.readers.specs.Readers.{index_of, expression_of}
 use Rattle.readers.proofs.Links.{word_past}
 use Rattle.parts.specs.Parts.{used_at, allows, one_more, assigned_in, positioned_in, miscounted_from}
-use Rattle.simple.specs.Statements.{target_on, target_of, assignmentOf, gaveOf, numberTurn, numbersOf, countedOf, list_of, one_of, position_of, placed_of, behindOf, actOf, simpleOf}
+use Rattle.simple.specs.Statements.{target_on, target_of, assignment_of, gave_of, number_turn, numbers_of, counted_of, list_of, one_of, position_of, placed_of, behind_of, act_of, simple_of}
 use Rattle.simple.proofs.Laws.{rest, numbers_more, numbers_last}
-use Rattle.treewise.specs.Unrolled.{Aim, aim_on, whole_on, on_plain, on_aim, counted, given_from, targetIn, siteIn, assigned, placed, valuesIn, placedAll, carried}
+use Rattle.treewise.specs.Unrolled.{Aim, aim_on, whole_on, on_plain, on_aim, counted, given_from, target_in, site_in, assigned, placed, values_in, placed_all, carried}
 use Rattle.treewise.proofs.Trace.{When, when_pick, when_then, when_is, when_t_pick, when_t_then, when_repeat, when_word, when_t_word, within_bracket}
 use Rattle.treewise.proofs.Quiet.{Known, gave, failed, stated, quiet_eval}
 
@@ -86,7 +86,7 @@ count_steps zs z h = rw (lt-ltb (length zs) 65535 h) (ap pos (sym (count_next zs
 
 module _ (s t : List ℕ) (d : ℕ) where
   -- an expression and a designator that have a tree
-  pub read_is : (o at : ℕ) (x : State) (w : Tree) (e : ℕ) → parsed s d at ≡ ok w e tt → expressionOf s t d o at x ≡ built_at e (eval (reads s t) o w x)
+  pub read_is : (o at : ℕ) (x : State) (w : Tree) (e : ℕ) → parsed s d at ≡ ok w e tt → expression_of s t d o at x ≡ built_at e (eval (reads s t) o w x)
   read_is o at x w e q = reads_meaning (reads s t) s d o at x w e q
 
   factors : (o at : ℕ) (x : State)
@@ -108,21 +108,21 @@ module _ (s t : List ℕ) (d : ℕ) where
     number-fails : (n p : ℕ) (y' : State) → eval (reads s t) 1 w y ≡ bad n p y' → rest s t d g f v i y ≡ no n p y'
     number-fails n p y' h = numbers_last s t d g f v i y (no n p y') turned
       where
-        turned : numberTurn s t d g f v i y ≡ last (no n p y')
-        turned = unfold numberTurn in rw (read_is 1 i y w e q, h) refl
+        turned : number_turn s t d g f v i y ≡ last (no n p y')
+        turned = unfold number_turn in rw (read_is 1 i y w e q, h) refl
 
     module _ (k st v' : ℕ) (c : Cursor) (word : next_word s e ≡ Word k st v' c) (z : ℤ) (y' : State) (h : eval (reads s t) 1 w y ≡ built z y') where
-      number_more : eqb k 59 ≡ true → rest s t d g f v i y ≡ rest s t d g f (nextℤ v) c.at (gaveOf s t d g f v z y')
-      number_more b = numbers_more s t d g f v (nextℤ v) i c.at y (gaveOf s t d g f v z y') turned
+      number_more : eqb k 59 ≡ true → rest s t d g f v i y ≡ rest s t d g f (nextℤ v) c.at (gave_of s t d g f v z y')
+      number_more b = numbers_more s t d g f v (nextℤ v) i c.at y (gave_of s t d g f v z y') turned
         where
-          turned : numberTurn s t d g f v i y ≡ more (nextℤ v) c.at (gaveOf s t d g f v z y')
-          turned = unfold numberTurn in rw (read_is 1 i y w e q, h, word, b) refl
+          turned : number_turn s t d g f v i y ≡ more (nextℤ v) c.at (gave_of s t d g f v z y')
+          turned = unfold number_turn in rw (read_is 1 i y w e q, h, word, b) refl
 
-      number_last : eqb k 59 ≡ false → eqb k 93 ≡ true → rest s t d g f v i y ≡ ok (nextℤ v) c.at (gaveOf s t d g f v z y')
-      number_last a b = numbers_last s t d g f v i y (ok (nextℤ v) c.at (gaveOf s t d g f v z y')) turned
+      number_last : eqb k 59 ≡ false → eqb k 93 ≡ true → rest s t d g f v i y ≡ ok (nextℤ v) c.at (gave_of s t d g f v z y')
+      number_last a b = numbers_last s t d g f v i y (ok (nextℤ v) c.at (gave_of s t d g f v z y')) turned
         where
-          turned : numberTurn s t d g f v i y ≡ last (ok (nextℤ v) c.at (gaveOf s t d g f v z y'))
-          turned = unfold numberTurn in rw (read_is 1 i y w e q, h, word, a, b) refl
+          turned : number_turn s t d g f v i y ≡ last (ok (nextℤ v) c.at (gave_of s t d g f v z y'))
+          turned = unfold number_turn in rw (read_is 1 i y w e q, h, word, a, b) refl
 
   -- a number of the grammar starts within the text and ends behind its start
   number_past : (q i : ℕ) (w : Tree) (e : ℕ) → nested trees s d false 0 q i tt ≡ ok w e tt → (i < e) × (i < length s)
@@ -136,10 +136,10 @@ module _ (s t : List ℕ) (d : ℕ) where
   module _ (small : length s ≤ 65535) (q at f : ℕ) (x : State) where
     -- they are counted as they are valued
     Count : Numbers → ℕ → Type 0
-    Count l i = (numbersOf s t d false f at x ≡ after_built (valuesIn s t l x) (λ zs y. rest s t d false f (pos (length zs)) i y)) × Given (valuesIn s t l x) (λ zs y. length zs ≤ i)
+    Count l i = (numbers_of s t d false f at x ≡ after_built (values_in s t l x) (λ zs y. rest s t d false f (pos (length zs)) i y)) × Given (values_in s t l x) (λ zs y. length zs ≤ i)
 
     Counted : Numbers → ℕ → Type 0
-    Counted l e = numbersOf s t d false f at x ≡ after_built (valuesIn s t l x) (λ zs y. ok (pos (length zs)) e y)
+    Counted l e = numbers_of s t d false f at x ≡ after_built (values_in s t l x) (λ zs y. ok (pos (length zs)) e y)
 
     module _ (i : ℕ) (w : Tree) (e : ℕ) (read : nested trees s d false 0 q i tt ≡ ok w e tt) (k st v : ℕ) (c : Cursor) (word : next_word s e ≡ Word k st v c) where
       valued-more : (b : Built State (List ℤ)) → Given b (λ zs y. length zs ≤ i) → eqb k 59 ≡ true
@@ -184,19 +184,19 @@ module _ (s t : List ℕ) (d : ℕ) where
           go (bad n p y') = tt
 
     numbers-counted : When Counted (numbers trees tree_forms s d q at tt)
-    unfolding Count Counted numbers treeNumber valuesIn
+    unfolding Count Counted numbers treeNumber values_in
     numbers-counted =
         when_repeat Count Counted (treeNumber trees tree_forms s d q) (λ l i m.
         when_t_then Count Counted (nested trees s d false 0 q i tt) _ (λ w e h.
         when_t_word s Count Counted e _ (λ k st v c g.
         when_t_pick Count Counted (eqb k 59) (more (and_number l w) c.at tt) _
-        (λ b. (m.0 ∙ valued-more i w e h k st v c g (valuesIn s t l x) m.1 b, valued-few i w e h k st v c g (valuesIn s t l x) m.1 b)) (λ a.
+        (λ b. (m.0 ∙ valued-more i w e h k st v c g (values_in s t l x) m.1 b, valued-few i w e h k st v c g (values_in s t l x) m.1 b)) (λ a.
         when_t_pick Count Counted (eqb k 93) (last (ok (and_number l w) c.at tt)) (last (no 2 st tt))
-        (λ b. m.0 ∙ valued-last i w e h k st v c g (valuesIn s t l x) m.1 a b) (λ b. tt)))))
+        (λ b. m.0 ∙ valued-last i w e h k st v c g (values_in s t l x) m.1 a b) (λ b. tt)))))
         (suc (length s)) no_numbers at (start, le-start)
       where
-        start : numbersOf s t d false f at x ≡ rest s t d false f (pos 0) at x
-        start = unfold numbersOf in refl
+        start : numbers_of s t d false f at x ≡ rest s t d false f (pos 0) at x
+        start = unfold numbers_of in refl
 
         le-start : 0 ≤ at
         le-start = omega arith
@@ -204,24 +204,24 @@ module _ (s t : List ℕ) (d : ℕ) where
     -- and where they are as many as the elements, they are given as they are read again
     Give : Numbers → ℕ → Type 0
     Give l i =
-        Given (valuesIn s t l x) (λ zs y.
-        (length zs ≤ i) × (numbersOf s t d true f at y ≡ rest s t d true f (pos (length zs)) i (given_from y.0 f zs, y.1)))
+        Given (values_in s t l x) (λ zs y.
+        (length zs ≤ i) × (numbers_of s t d true f at y ≡ rest s t d true f (pos (length zs)) i (given_from y.0 f zs, y.1)))
 
     Gave : Numbers → ℕ → Type 0
-    Gave l e = Given (valuesIn s t l x) (λ zs y. settled (numbersOf s t d true f at y) ≡ ok tt e (given_from y.0 f zs, y.1))
+    Gave l e = Given (values_in s t l x) (λ zs y. settled (numbers_of s t d true f at y) ≡ ok tt e (given_from y.0 f zs, y.1))
 
     module _ (i : ℕ) (w : Tree) (e : ℕ) (read : nested trees s d false 0 q i tt ≡ ok w e tt) (k st v : ℕ) (c : Cursor) (word : next_word s e ≡ Word k st v c) where
       given-more : (b : Built State (List ℤ))
-          → Given b (λ zs y. (length zs ≤ i) × (numbersOf s t d true f at y ≡ rest s t d true f (pos (length zs)) i (given_from y.0 f zs, y.1))) → eqb k 59 ≡ true
+          → Given b (λ zs y. (length zs ≤ i) × (numbers_of s t d true f at y ≡ rest s t d true f (pos (length zs)) i (given_from y.0 f zs, y.1))) → eqb k 59 ≡ true
           → Given (and_built b (λ zs y. and_built (eval (reads s t) 1 w y) (λ z y. built (zs ++ (z ∷ [])) y)))
-          (λ zs y. (length zs ≤ c.at) × (numbersOf s t d true f at y ≡ rest s t d true f (pos (length zs)) c.at (given_from y.0 f zs, y.1)))
+          (λ zs y. (length zs ≤ c.at) × (numbers_of s t d true f at y ≡ rest s t d true f (pos (length zs)) c.at (given_from y.0 f zs, y.1)))
       given-more (bad n p y) m b = tt
       given-more (built zs y) m b = go (quiet_eval s t w 1 refl).0 (quiet_eval s t w 1 refl).1
         where
           After : Built State ℤ → Type 0
           After r =
               Given (and_built r (λ z y. built (zs ++ (z ∷ [])) y))
-              (λ zs y. (length zs ≤ c.at) × (numbersOf s t d true f at y ≡ rest s t d true f (pos (length zs)) c.at (given_from y.0 f zs, y.1)))
+              (λ zs y. (length zs ≤ c.at) × (numbers_of s t d true f at y ≡ rest s t d true f (pos (length zs)) c.at (given_from y.0 f zs, y.1)))
 
           go : (a : Known ℤ) → ((x : State) → eval (reads s t) 1 w x ≡ stated a x) → After (eval (reads s t) 1 w y)
           go (gave z) h =
@@ -238,16 +238,16 @@ module _ (s t : List ℕ) (d : ℕ) where
           go (failed n p) h = subst After (sym (h y)) tt
 
       given-last : (b : Built State (List ℤ))
-          → Given b (λ zs y. (length zs ≤ i) × (numbersOf s t d true f at y ≡ rest s t d true f (pos (length zs)) i (given_from y.0 f zs, y.1)))
+          → Given b (λ zs y. (length zs ≤ i) × (numbers_of s t d true f at y ≡ rest s t d true f (pos (length zs)) i (given_from y.0 f zs, y.1)))
           → eqb k 59 ≡ false → eqb k 93 ≡ true
           → Given (and_built b (λ zs y. and_built (eval (reads s t) 1 w y) (λ z y. built (zs ++ (z ∷ [])) y)))
-          (λ zs y. settled (numbersOf s t d true f at y) ≡ ok tt c.at (given_from y.0 f zs, y.1))
+          (λ zs y. settled (numbers_of s t d true f at y) ≡ ok tt c.at (given_from y.0 f zs, y.1))
       given-last (bad n p y) m a b = tt
       given-last (built zs y) m a b = go (quiet_eval s t w 1 refl).0 (quiet_eval s t w 1 refl).1
         where
           After : Built State ℤ → Type 0
           After r =
-              Given (and_built r (λ z y. built (zs ++ (z ∷ [])) y)) (λ zs y. settled (numbersOf s t d true f at y) ≡ ok tt c.at (given_from y.0 f zs, y.1))
+              Given (and_built r (λ z y. built (zs ++ (z ∷ [])) y)) (λ zs y. settled (numbers_of s t d true f at y) ≡ ok tt c.at (given_from y.0 f zs, y.1))
 
           go : (a : Known ℤ) → ((x : State) → eval (reads s t) 1 w x ≡ stated a x) → After (eval (reads s t) 1 w y)
           go (gave z) h =
@@ -258,19 +258,19 @@ module _ (s t : List ℕ) (d : ℕ) where
           go (failed n p) h = subst After (sym (h y)) tt
 
     numbers-given : When Gave (numbers trees tree_forms s d q at tt)
-    unfolding Give Gave numbers treeNumber valuesIn given_from
+    unfolding Give Gave numbers treeNumber values_in given_from
     numbers-given =
         when_repeat Give Gave (treeNumber trees tree_forms s d q) (λ l i m.
         when_t_then Give Gave (nested trees s d false 0 q i tt) _ (λ w e h.
         when_t_word s Give Gave e _ (λ k st v c g.
         when_t_pick Give Gave (eqb k 59) (more (and_number l w) c.at tt) _
-        (λ b. given-more i w e h k st v c g (valuesIn s t l x) m b) (λ a.
+        (λ b. given-more i w e h k st v c g (values_in s t l x) m b) (λ a.
         when_t_pick Give Gave (eqb k 93) (last (ok (and_number l w) c.at tt)) (last (no 2 st tt))
-        (λ b. given-last i w e h k st v c g (valuesIn s t l x) m a b) (λ b. tt)))))
+        (λ b. given-last i w e h k st v c g (values_in s t l x) m a b) (λ b. tt)))))
         (suc (length s)) no_numbers at (le-start, start)
       where
-        start : numbersOf s t d true f at x ≡ rest s t d true f (pos 0) at x
-        start = unfold numbersOf in refl
+        start : numbers_of s t d true f at x ≡ rest s t d true f (pos 0) at x
+        start = unfold numbers_of in refl
 
         le-start : 0 ≤ at
         le-start = omega arith
@@ -278,21 +278,21 @@ module _ (s t : List ℕ) (d : ℕ) where
     -- a position with a list, for n elements from f on
     list-is : (n : ℕ) (l : Numbers) (e : ℕ) → numbers trees tree_forms s d q at tt ≡ ok l e tt
         → settled (list_of s t d f n at x)
-        ≡ built_at e (and_built (valuesIn s t l x) (λ zs y.
+        ≡ built_at e (and_built (values_in s t l x) (λ zs y.
         built tt (pick (eqb (length zs) n) (given_from y.0 f zs) (miscounted_from y.0 f (pick (eqb n 0) 1 n)), y.1)))
     unfolding list_of Counted Gave
     list-is n l e r =
-        ap (λ (o : Outcome State ℤ). settled (and_then o (countedOf s t d f n at))) (when_is Counted (numbers trees tree_forms s d q at tt) l e r numbers-counted)
-        ∙ go (valuesIn s t l x) (when_is Gave (numbers trees tree_forms s d q at tt) l e r numbers-given)
+        ap (λ (o : Outcome State ℤ). settled (and_then o (counted_of s t d f n at))) (when_is Counted (numbers trees tree_forms s d q at tt) l e r numbers-counted)
+        ∙ go (values_in s t l x) (when_is Gave (numbers trees tree_forms s d q at tt) l e r numbers-given)
       where
-        choice : (zs : List ℤ) (y : State) → settled (numbersOf s t d true f at y) ≡ ok tt e (given_from y.0 f zs, y.1) → (b : Bool)
-            → settled (pick b (numbersOf s t d true f at y) (ok (pos 0) e (miscounted_from y.0 f (pick (eqb n 0) 1 n), y.1)))
+        choice : (zs : List ℤ) (y : State) → settled (numbers_of s t d true f at y) ≡ ok tt e (given_from y.0 f zs, y.1) → (b : Bool)
+            → settled (pick b (numbers_of s t d true f at y) (ok (pos 0) e (miscounted_from y.0 f (pick (eqb n 0) 1 n), y.1)))
             ≡ ok tt e (pick b (given_from y.0 f zs) (miscounted_from y.0 f (pick (eqb n 0) 1 n)), y.1)
         choice zs y h true = h
         choice zs y h false = refl
 
-        go : (b : Built State (List ℤ)) → Given b (λ zs y. settled (numbersOf s t d true f at y) ≡ ok tt e (given_from y.0 f zs, y.1))
-            → settled (and_then (after_built b (λ zs y. ok (pos (length zs)) e y)) (countedOf s t d f n at))
+        go : (b : Built State (List ℤ)) → Given b (λ zs y. settled (numbers_of s t d true f at y) ≡ ok tt e (given_from y.0 f zs, y.1))
+            → settled (and_then (after_built b (λ zs y. ok (pos (length zs)) e y)) (counted_of s t d f n at))
             ≡ built_at e (and_built b (λ zs y. built tt (pick (eqb (length zs) n) (given_from y.0 f zs) (miscounted_from y.0 f (pick (eqb n 0) 1 n)), y.1)))
         go (built zs y) h = choice zs y h (eqb (length zs) n)
         go (bad k p y) h = refl
@@ -312,8 +312,8 @@ module _ (s t : List ℕ) (d : ℕ) where
 
   -- an assignment behind its `:=`
   assign-is : (k at : ℕ) (x : State) (w : Tree) (e : ℕ) → parsed s d at ≡ ok w e tt
-      → settled (assignmentOf s t d k at x) ≡ built_at e (and_built (eval (reads s t) 2 w x) (λ u y. built tt (assigned_in y.0 k x.1 y.1, y.1)))
-  unfolding assignmentOf
+      → settled (assignment_of s t d k at x) ≡ built_at e (and_built (eval (reads s t) 2 w x) (λ u y. built tt (assigned_in y.0 k x.1 y.1, y.1)))
+  unfolding assignment_of
   assign-is k at x w e q = rw (read_is 2 at x w e q) (go (eval (reads s t) 2 w x))
     where
       go : (b : Built State ℤ)
@@ -326,22 +326,22 @@ module _ (s t : List ℕ) (d : ℕ) where
 
   module _ (b : Built State ℤ) (e₁ k p v : ℕ) (c : Cursor) (word : next_word s e₁ ≡ Word k p v c) (x : State) where
     behind-assign : (w : Tree) (e : ℕ) → eqb k 189 ≡ true → parsed s d c.at ≡ ok w e tt
-        → settled (behindOf s t d x (target_on (built_at e₁ b)))
+        → settled (behind_of s t d x (target_on (built_at e₁ b)))
         ≡ built_at e (on_aim (aim_on b) x (λ k n. and_built (eval (reads s t) 2 w x) (λ u y. built tt (assigned_in y.0 k x.1 y.1, y.1))))
     behind-assign w e h q = go b
       where
         go : (b : Built State ℤ)
-            → settled (behindOf s t d x (target_on (built_at e₁ b)))
+            → settled (behind_of s t d x (target_on (built_at e₁ b)))
             ≡ built_at e (on_aim (aim_on b) x (λ k n. and_built (eval (reads s t) 2 w x) (λ u y. built tt (assigned_in y.0 k x.1 y.1, y.1))))
         go (built z y) = rw (word, h) (assign-is (get_or y.0 0 0 - 9) c.at x w e q)
         go (bad n r y) = refl
 
     behind-place : (e : ℕ) (f : ℕ → ℕ → Built State (Unit {0})) → eqb k 189 ≡ false → eqb k 186 ≡ true
         → ((i n : ℕ) → settled (position_of s t d i n c.at x) ≡ built_at e (f i n))
-        → settled (behindOf s t d x (target_on (built_at e₁ b))) ≡ built_at e (on_aim (aim_on b) x f)
+        → settled (behind_of s t d x (target_on (built_at e₁ b))) ≡ built_at e (on_aim (aim_on b) x f)
     behind-place e f h h' q = go b
       where
-        go : (b : Built State ℤ) → settled (behindOf s t d x (target_on (built_at e₁ b))) ≡ built_at e (on_aim (aim_on b) x f)
+        go : (b : Built State ℤ) → settled (behind_of s t d x (target_on (built_at e₁ b))) ≡ built_at e (on_aim (aim_on b) x f)
         go (built z y) = rw (word, h, h') (q (get_or y.0 0 0 - 9) 0)
         go (bad n r y) = refl
 
@@ -352,13 +352,13 @@ module _ (s t : List ℕ) (d : ℕ) where
   whole-place st at x (signal i n) e f q = q i n
 
   -- a simple statement is counted first
-  counts : (f : State → Built State (Unit {0})) (st e₀ e : ℕ) (x : State) → ((y : State) → settled (actOf s t d st e₀ y) ≡ built_at e (f y))
-      → settled (simpleOf s t d st e₀ x) ≡ built_at e (counted st f x)
-  unfolding simpleOf counted
+  counts : (f : State → Built State (Unit {0})) (st e₀ e : ℕ) (x : State) → ((y : State) → settled (act_of s t d st e₀ y) ≡ built_at e (f y))
+      → settled (simple_of s t d st e₀ x) ≡ built_at e (counted st f x)
+  unfolding simple_of counted
   counts f st e₀ e x h = go (allows x.0 used_at 4096)
     where
       go : (b : Bool)
-          → settled (pick b (actOf s t d st e₀ (one_more x.0 used_at 4096, x.1)) (no 6 st x))
+          → settled (pick b (act_of s t d st e₀ (one_more x.0 used_at 4096, x.1)) (no 6 st x))
           ≡ built_at e (pick b (f (one_more x.0 used_at 4096, x.1)) (bad 6 st x))
       go true = h (one_more x.0 used_at 4096, x.1)
       go false = refl
@@ -366,24 +366,24 @@ module _ (s t : List ℕ) (d : ℕ) where
   module _ (small : length s ≤ 65535) (at st v₀ : ℕ) (c₀ : Cursor) (name : next_word s at ≡ Word 1 st v₀ c₀) where
     act-behind : (k p v : ℕ) (c : Cursor) (x : State) (w : Tree) (e : ℕ) → next_word s c₀.at ≡ Word k p v c → eqb k 186 ≡ false
         → named trees s (nested trees s d) 0 st c₀.at tt ≡ ok w e tt
-        → actOf s t d st c₀.at x ≡ behindOf s t d x (target_on (built_at e (eval (reads s t) 2 w (0 ∷ [], 0))))
-    unfolding actOf target_of
+        → act_of s t d st c₀.at x ≡ behind_of s t d x (target_on (built_at e (eval (reads s t) 2 w (0 ∷ [], 0))))
+    unfolding act_of target_of
     act-behind k p v c x w e q b h =
-        rw (q, b) (ap (λ (r : Outcome State ℤ). behindOf s t d x (target_on r)) (named_is 2 at st v₀ c₀ (0 ∷ [], 0) w e name h))
+        rw (q, b) (ap (λ (r : Outcome State ℤ). behind_of s t d x (target_on r)) (named_is 2 at st v₀ c₀ (0 ∷ [], 0) w e name h))
 
     act-whole : (k p v : ℕ) (c : Cursor) (x : State) → next_word s c₀.at ≡ Word k p v c → eqb k 186 ≡ true
-        → actOf s t d st c₀.at x ≡ placed_of s t d st c.at x (meaning_of s t st c₀.at)
-    unfolding actOf
+        → act_of s t d st c₀.at x ≡ placed_of s t d st c.at x (meaning_of s t st c₀.at)
+    unfolding act_of
     act-whole k p v c x q b = rw (q, b) refl
 
     module _ (w : Tree) (e₁ : ℕ) (read : named trees s (nested trees s d) 0 st c₀.at tt ≡ ok w e₁ tt) (k p v : ℕ) (c : Cursor)
         (word : next_word s e₁ ≡ Word k p v c) where
       assign-acts : (u : Tree) (e : ℕ) → eqb k 189 ≡ true → parsed s d c.at ≡ ok u e tt → (y : State)
-          → settled (actOf s t d st c₀.at y) ≡ built_at e (assigned s t w u y)
-      unfolding assigned targetIn
+          → settled (act_of s t d st c₀.at y) ≡ built_at e (assigned s t w u y)
+      unfolding assigned target_in
       assign-acts u e h q y = go (when_is (Form s st c₀.at) (named trees s (nested trees s d) 0 st c₀.at tt) w e₁ read (named_form s d st c₀.at))
         where
-          go : Form s st c₀.at w e₁ → settled (actOf s t d st c₀.at y)
+          go : Form s st c₀.at w e₁ → settled (act_of s t d st c₀.at y)
               ≡ built_at e (on_aim (aim_on (eval (reads s t) 2 w (0 ∷ [], 0))) y (λ k n. and_built (eval (reads s t) 2 u y) (λ z x. built tt (assigned_in x.0 k y.1 x.1, x.1))))
           go (alone i j) =
               ap settled (act-behind k p v c y w e₁ (subst (λ (i : ℕ). next_word s i ≡ Word k p v c) j word) (no_position k 189 h refl) read)
@@ -394,11 +394,11 @@ module _ (s t : List ℕ) (d : ℕ) where
 
       place-acts : (e : ℕ) (f : ℕ → ℕ → Built State (Unit {0})) → eqb k 189 ≡ false → eqb k 186 ≡ true → (y : State)
           → ((i n : ℕ) → settled (position_of s t d i n c.at y) ≡ built_at e (f i n))
-          → settled (actOf s t d st c₀.at y) ≡ built_at e (on_aim (siteIn s t w) y f)
-      unfolding siteIn targetIn
+          → settled (act_of s t d st c₀.at y) ≡ built_at e (on_aim (site_in s t w) y f)
+      unfolding site_in target_in
       place-acts e f h h' y q = go (when_is (Form s st c₀.at) (named trees s (nested trees s d) 0 st c₀.at tt) w e₁ read (named_form s d st c₀.at))
         where
-          go : Form s st c₀.at w e₁ → settled (actOf s t d st c₀.at y)
+          go : Form s st c₀.at w e₁ → settled (act_of s t d st c₀.at y)
               ≡ built_at e (on_aim (on_plain w (λ st e. whole_on st (meaning_of s t st e)) (aim_on (eval (reads s t) 2 w (0 ∷ [], 0)))) y f)
           go (alone i j) =
               ap settled (act-whole k p v c y (subst (λ (i : ℕ). next_word s i ≡ Word k p v c) j word) h')
@@ -411,8 +411,8 @@ module _ (s t : List ℕ) (d : ℕ) where
 
     -- a simple statement does what its tree says
     pub simple_is : (x : State)
-        → When (λ u e. settled (simpleOf s t d st c₀.at x) ≡ built_at e (carried s t u x)) (simple trees tree_forms s d st c₀.at tt)
-    unfolding simple aimed positioned carried placed placedAll
+        → When (λ u e. settled (simple_of s t d st c₀.at x) ≡ built_at e (carried s t u x)) (simple trees tree_forms s d st c₀.at tt)
+    unfolding simple aimed positioned carried placed placed_all
     simple_is x =
         when_then Does (named trees s (nested trees s d) 0 st c₀.at tt) (aimed trees tree_forms s d st) (λ w e₁ read.
         when_word s Does e₁ _ (λ k p v c word.
@@ -423,8 +423,8 @@ module _ (s t : List ℕ) (d : ℕ) where
         (λ h'. when_word s Does c.at _ (λ k₂ p₂ v₂ c₂ word₂.
         when_pick Does (eqb k₂ 91) _ _
         (λ b. when_then Does (numbers trees tree_forms s d p₂ c₂.at tt) _ (λ l e q.
-        counts (placedAll s t w l) st c₀.at e x (λ y.
-        place-acts w e₁ read k p v c word e (λ i n. and_built (valuesIn s t l y) (λ zs y.
+        counts (placed_all s t w l) st c₀.at e x (λ y.
+        place-acts w e₁ read k p v c word e (λ i n. and_built (values_in s t l y) (λ zs y.
         built tt (pick (eqb (length zs) n) (given_from y.0 i zs) (miscounted_from y.0 i (pick (eqb n 0) 1 n)), y.1))) h h' y (λ i n.
         ap settled (list_at i n c.at y k₂ p₂ v₂ c₂ word₂ b) ∙ list-is small p₂ c₂.at i y n l e q))))
         (λ b. when_then Does (parsed s d c.at) _ (λ u e q.
@@ -435,7 +435,7 @@ module _ (s t : List ℕ) (d : ℕ) where
         (λ h. tt))))
       where
         Does : Statements → ℕ → Type 0
-        Does u e = settled (simpleOf s t d st c₀.at x) ≡ built_at e (carried s t u x)
+        Does u e = settled (simple_of s t d st c₀.at x) ≡ built_at e (carried s t u x)
 
         list_at : (i n at : ℕ) (y : State) (k p v : ℕ) (c : Cursor) → next_word s at ≡ Word k p v c → eqb k 91 ≡ true
             → position_of s t d i n at y ≡ list_of s t d i n c.at y

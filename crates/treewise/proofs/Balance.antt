@@ -10,7 +10,7 @@ use lib.Dec.{eqb}
 use Rattle.grammar.specs.Outcome.{Outcome, ok, no, more, last}
 use Rattle.grammar.specs.Grammar.{closed, nested, named}
 use Rattle.grammar.specs.Trees.{trees, parsed}
-use Rattle.grammar.specs.Modules.{must, up_to, given, numberTurn, numbers, positioned, aimed, simple, statement, statementTurn, statements, looped, ranged, forFrom, for_of, sequence}
+use Rattle.grammar.specs.Modules.{must, up_to, given, number_turn, numbers, positioned, aimed, simple, statement, statement_turn, statements, looped, ranged, for_from, for_of, sequence}
 use Rattle.grammar.specs.Forms.{no_numbers, and_number, Statements, nothing, and_statement, loop, tree_forms}
 use Rattle.unroll.specs.Loops.{passed_of}
 use Rattle.unroll.proofs.Laws.{passing}
@@ -29,9 +29,9 @@ module _ (s : List ℕ) where
   steady-trans a b c p q l = p l ∙ q l
 
   flat-numbers : (d q at : ℕ) → Flat at (numbers trees tree_forms s d q at tt)
-  unfolding numbers numberTurn
+  unfolding numbers number_turn
   flat-numbers d q at =
-      when_repeat (λ v e. Steady s at e) (λ v e. Steady s at e) (numberTurn trees tree_forms s d q) (λ l i m.
+      when_repeat (λ v e. Steady s at e) (λ v e. Steady s at e) (number_turn trees tree_forms s d q) (λ l i m.
       when_t_then (λ v e. Steady s at e) (λ v e. Steady s at e) (nested trees s d false 0 q i tt) _ (λ w e h.
       let m : Steady s at e = steady-trans at i e m (within_bracket s d q i w e h).0 in
       when_t_word s (λ v e. Steady s at e) (λ v e. Steady s at e) e _ (λ k st v c g.
@@ -81,9 +81,9 @@ module _ (s : List ℕ) where
         (λ b. refl)))
 
     even-statements : (l at : ℕ) → l + d < 200 → Level (passing s l at) l (statements trees tree_forms s d loops at tt)
-    unfolding statements statementTurn
+    unfolding statements statement_turn
     even-statements l at h =
-        when_repeat (λ v e. passing s l at ≡ passing s l e) (λ v e. passing s l at ≡ passing s l e) (statementTurn trees tree_forms s d loops) (λ v i m.
+        when_repeat (λ v e. passing s l at ≡ passing s l e) (λ v e. passing s l at ≡ passing s l e) (statement_turn trees tree_forms s d loops) (λ v i m.
         when_t_then (λ v e. passing s l at ≡ passing s l e) (λ v e. passing s l at ≡ passing s l e) (statement trees tree_forms s d loops i tt) _ (λ t e q.
         let m : passing s l at ≡ passing s l e = m ∙ when_is (λ v e. passing s l i ≡ passing s l e) (statement trees tree_forms s d loops i tt) t e q (even-statement l i h) in
         when_t_word s (λ v e. passing s l at ≡ passing s l e) (λ v e. passing s l at ≡ passing s l e) e _ (λ k st v' c g.
@@ -108,8 +108,8 @@ module _ (s : List ℕ) where
 
   module _ (d : ℕ) (body : ℕ → Unit {0} → Outcome (Unit {0}) Statements)
       (even : (l at : ℕ) → l + d < 200 → Level (passing s l at) l (body at tt)) where
-    even-for : (l p at : ℕ) → l + suc d < 200 → Level (passing s (l + 1) at) l (forFrom trees tree_forms s d body p at tt)
-    unfolding forFrom ranged looped
+    even-for : (l p at : ℕ) → l + suc d < 200 → Level (passing s (l + 1) at) l (for_from trees tree_forms s d body p at tt)
+    unfolding for_from ranged looped
     even-for l p at h =
         when_word s (λ v e. passing s (l + 1) at ≡ passing s l e) at _ (λ k st v c g.
         when_pick (λ v e. passing s (l + 1) at ≡ passing s l e) (eqb k 1) _ (no 2 st tt) (λ b.

@@ -12,12 +12,12 @@ use Rattle.names.specs.Names.{spelling, same_bytes, same, find, entry, entries, 
 use Rattle.grammar.specs.Outcome.{Outcome, ok, no, Built, built, bad}
 use Rattle.grammar.specs.Grammar.{index_sort, part_sort, closed, turn, chain, level, dotted, pointed, part, bracketed, named, factor, term, expression, nested}
 use Rattle.grammar.specs.Trees.{literal, logic, element, apply, plain, trees}
-use Rattle.grammar.specs.Modules.{repeat, up_to, given, numberTurn, numbers, positioned, aimed, simple, statement, statementTurn, statements, looped, ranged, forFrom, for_of, sequence}
+use Rattle.grammar.specs.Modules.{repeat, up_to, given, number_turn, numbers, positioned, aimed, simple, statement, statement_turn, statements, looped, ranged, for_from, for_of, sequence}
 use Rattle.grammar.specs.Forms.{Statements, nothing, and_statement, assign, loop, tree_forms}
 use Rattle.judging.specs.Judging.{meaning_of, mark_of, literal_of, logic_of, plain_of, opened_of, element_of, operator_of}
 use Rattle.judging.specs.Reading.{State, emitted}
 use Rattle.parts.specs.Parts.{raised, noted, allows, one_more, assigned_in, positioned_in, miscounted_from}
-use Rattle.treewise.specs.Unrolled.{counted, given_from, rounds_in, targetIn, siteIn, assigned, placed, valuesIn, placedAll, carried}
+use Rattle.treewise.specs.Unrolled.{counted, given_from, rounds_in, target_in, site_in, assigned, placed, values_in, placed_all, carried}
 
 -- an array v of 8 elements, whose name is the first byte of each text; memory for four nodes
 abbrev pub standing : List ℕ
@@ -47,7 +47,7 @@ pub loop_tree : sequence trees tree_forms (text "v.0:='1;FOR i:=0-1..1 DO v[i+1]
     ≡ ok (and_statement (and_statement nothing (assign 0 (element 0 1 1 (literal 2 0)) (logic 5 1)))
     (loop 8 12 13 (apply 45 16 (literal 15 0) (literal 17 1)) (literal 20 1) 24
     (and_statement nothing (assign 25 (element 25 26 26 (apply 43 28 (plain 27 28) (literal 29 1))) (logic 33 0))))) 39 tt
-unfolding is_blank is_letter is_digit is_single is_pair turn_of gap end_of prefixed of_two of_three of_four of_five of_six keyword_of wordNamed name_at value_of number_at pair_kind pair_at logic_at form_at word_at next_word index_sort part_sort closed turn chain level dotted pointed part bracketed named factor term expression nested repeat up_to given numberTurn numbers positioned aimed simple statement statementTurn statements looped ranged forFrom for_of
+unfolding is_blank is_letter is_digit is_single is_pair turn_of gap end_of prefixed of_two of_three of_four of_five of_six keyword_of wordNamed name_at value_of number_at pair_kind pair_at logic_at form_at word_at next_word index_sort part_sort closed turn chain level dotted pointed part bracketed named factor term expression nested repeat up_to given number_turn numbers positioned aimed simple statement statement_turn statements looped ranged for_from for_of
 loop_tree = refl
 
 pub trees_meant : ◌≡◌ {A = List Seen}
@@ -57,5 +57,5 @@ pub trees_meant : ◌≡◌ {A = List Seen}
     (wrote 1 ∷ refused 5 1 ∷ refused 5 0
     ∷ wrote 4 ∷ refused 4 37
     ∷ wrote 1 ∷ wrote 0 ∷ wrote 0 ∷ [])
-unfolding is_blank is_letter is_digit is_single is_pair turn_of gap end_of prefixed of_two of_three of_four of_five of_six keyword_of wordNamed name_at value_of number_at pair_kind pair_at logic_at form_at word_at next_word fitted divided left_over powered combined rounds_of spelling same_bytes same find entry entries looked_up extended number_of index_sort part_sort closed turn chain level dotted pointed part bracketed named factor term expression nested repeat up_to given numberTurn numbers positioned aimed simple statement statementTurn statements looped ranged forFrom for_of meaning_of mark_of literal_of logic_of plain_of opened_of element_of operator_of emitted raised noted allows one_more assigned_in positioned_in miscounted_from counted given_from rounds_in targetIn siteIn assigned placed valuesIn placedAll carried
+unfolding is_blank is_letter is_digit is_single is_pair turn_of gap end_of prefixed of_two of_three of_four of_five of_six keyword_of wordNamed name_at value_of number_at pair_kind pair_at logic_at form_at word_at next_word fitted divided left_over powered combined rounds_of spelling same_bytes same find entry entries looked_up extended number_of index_sort part_sort closed turn chain level dotted pointed part bracketed named factor term expression nested repeat up_to given number_turn numbers positioned aimed simple statement statement_turn statements looped ranged for_from for_of meaning_of mark_of literal_of logic_of plain_of opened_of element_of operator_of emitted raised noted allows one_more assigned_in positioned_in miscounted_from counted given_from rounds_in target_in site_in assigned placed values_in placed_all carried
 trees_meant = refl

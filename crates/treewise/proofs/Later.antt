@@ -23,10 +23,10 @@ use Rattle.judging.specs.Reading.{State, emitted, done, based, reads}
 use Rattle.parts.specs.Parts.{used_at, elements_at, constants_at, allows, one_more}
 use Rattle.simple.specs.Statements.{upward}
 use Rattle.lists.specs.Lists.{is_known, is_length}
-use Rattle.declare.specs.Declarations.{width_of, declarationsOf}
+use Rattle.declare.specs.Declarations.{width_of, declarations_of}
 use Rattle.unroll.specs.Loops.{with_loop, statements_of}
-use Rattle.treewise.specs.Unrolled.{Aim, from, off, aim_on, whole_on, on_plain, on_aim, counted, rounds_in, targetIn, siteIn, assigned, placed, valuesIn, placedAll, carried}
-use Rattle.treewise.specs.Declared.{Fresh, new, old, unless_old, start_of, element_in, elements_in, freshIn, lengthIn, signalsIn, constantIn, declaredIn}
+use Rattle.treewise.specs.Unrolled.{Aim, from, off, aim_on, whole_on, on_plain, on_aim, counted, rounds_in, target_in, site_in, assigned, placed, values_in, placed_all, carried}
+use Rattle.treewise.specs.Declared.{Fresh, new, old, unless_old, start_of, element_in, elements_in, fresh_in, length_in, signals_in, constant_in, declared_in}
 use Rattle.treewise.proofs.Whole.{tree_agrees}
 
 abbrev pub Later : ℕ → Type 0
@@ -196,30 +196,30 @@ module _ (s t : List ℕ) where
   onAim-later (from k n) x f h g = g k n
   onAim-later (off n p) x f h g = h
 
-  target-later : (v : Tree) → LaterAim (targetIn s t v)
-  unfolding targetIn
+  target-later : (v : Tree) → LaterAim (target_in s t v)
+  unfolding target_in
   target-later v = aim-later (eval (reads s t) 2 v (0 ∷ [], 0)) (eval-later v 2 (0 ∷ [], 0))
 
-  site-later : (v : Tree) → LaterAim (siteIn s t v)
-  unfolding siteIn
-  site-later v = onPlain-later v (λ st e. whole_on st (meaning_of s t st e)) (targetIn s t v) (λ st e. whole-later st (meaning_of s t st e)) (target-later v)
+  site-later : (v : Tree) → LaterAim (site_in s t v)
+  unfolding site_in
+  site-later v = onPlain-later v (λ st e. whole_on st (meaning_of s t st e)) (target_in s t v) (λ st e. whole-later st (meaning_of s t st e)) (target-later v)
 
   assigned-later : (v w : Tree) (x : State) → LaterB (assigned s t v w x)
   unfolding assigned
-  assigned-later v w x = onAim-later (targetIn s t v) x _ (target-later v) (λ k n. then_later (eval (reads s t) 2 w x) _ (eval-later w 2 x) (λ u y. tt))
+  assigned-later v w x = onAim-later (target_in s t v) x _ (target-later v) (λ k n. then_later (eval (reads s t) 2 w x) _ (eval-later w 2 x) (λ u y. tt))
 
   placed-later : (v w : Tree) (x : State) → LaterB (placed s t v w x)
   unfolding placed
-  placed-later v w x = onAim-later (siteIn s t v) x _ (site-later v) (λ k n. then_later (eval (reads s t) 1 w x) _ (eval-later w 1 x) (λ u y. tt))
+  placed-later v w x = onAim-later (site_in s t v) x _ (site-later v) (λ k n. then_later (eval (reads s t) 1 w x) _ (eval-later w 1 x) (λ u y. tt))
 
-  values-later : (l : Numbers) (x : State) → LaterB (valuesIn s t l x)
-  unfolding valuesIn
+  values-later : (l : Numbers) (x : State) → LaterB (values_in s t l x)
+  unfolding values_in
   values-later no_numbers x = tt
-  values-later (and_number l w) x = then_later (valuesIn s t l x) _ (values-later l x) (λ zs y. then_later (eval (reads s t) 1 w y) _ (eval-later w 1 y) (λ z y. tt))
+  values-later (and_number l w) x = then_later (values_in s t l x) _ (values-later l x) (λ zs y. then_later (eval (reads s t) 1 w y) _ (eval-later w 1 y) (λ z y. tt))
 
-  placedAll-later : (v : Tree) (l : Numbers) (x : State) → LaterB (placedAll s t v l x)
-  unfolding placedAll
-  placedAll-later v l x = onAim-later (siteIn s t v) x _ (site-later v) (λ k n. then_later (valuesIn s t l x) _ (values-later l x) (λ u y. tt))
+  placedAll-later : (v : Tree) (l : Numbers) (x : State) → LaterB (placed_all s t v l x)
+  unfolding placed_all
+  placedAll-later v l x = onAim-later (site_in s t v) x _ (site-later v) (λ k n. then_later (values_in s t l x) _ (values-later l x) (λ u y. tt))
 
 counted_later : (p : ℕ) (f : State → Built State (Unit {0})) (x : State) → ((y : State) → LaterB (f y)) → LaterB (counted p f x)
 unfolding counted
@@ -238,7 +238,7 @@ carried_later s t nothing x = tt
 carried_later s t (and_statement u v) x = then_later (carried s t u x) _ (carried_later s t u x) (λ w y. carried_later s t v y)
 carried_later s t (assign p v w) x = counted_later p (assigned s t v w) x (assigned-later s t v w)
 carried_later s t (place p v w) x = counted_later p (placed s t v w) x (placed-later s t v w)
-carried_later s t (places p v l) x = counted_later p (placedAll s t v l) x (placedAll-later s t v l)
+carried_later s t (places p v l) x = counted_later p (placed_all s t v l) x (placedAll-later s t v l)
 carried_later s t (loop p st e a b at u) x =
     then_later (eval (reads s t) 1 a x) _ (eval-later s t a 1 x) (λ lo y.
     then_later (eval (reads s t) 1 b y) _ (eval-later s t b 1 y) (λ hi z.
@@ -256,8 +256,8 @@ module _ (s : List ℕ) where
   elements-later c n t (first_name st e) x = elementIn-later c n t st e x
   elements-later c n t (and_name l st e) x = then_later (elements_in c n t l x) _ (elements-later c n t l x) (λ u y. elementIn-later c n u st e y)
 
-  length-later : (t : List ℕ) (y : Shape) (x : State) → LaterB (lengthIn s t y x)
-  unfolding lengthIn
+  length-later : (t : List ℕ) (y : Shape) (x : State) → LaterB (length_in s t y x)
+  unfolding length_in
   length-later t bit x = tt
   length-later t (array at v) x =
       then_later (eval (reads s t) 1 v x) _ (eval-later s t v 1 x) (λ z y. pick_later (is_length z) (built z y) (bad 5 (start_of (next_word s at)) y) tt five)
@@ -266,22 +266,22 @@ module _ (s : List ℕ) where
   unless-later new x b h = h
   unless-later (old p) x b h = four
 
-  signals-later : (t : List ℕ) (c : ℕ) (l : Names) (y : Shape) (x : State) → LaterB (signalsIn s t c l y x)
-  unfolding signalsIn
-  signals-later t c l y x = unless-later (freshIn s t l) x _ (then_later (lengthIn s t y x) _ (length-later t y x) (λ z x. elements-later c (upward z) t l x))
+  signals-later : (t : List ℕ) (c : ℕ) (l : Names) (y : Shape) (x : State) → LaterB (signals_in s t c l y x)
+  unfolding signals_in
+  signals-later t c l y x = unless-later (fresh_in s t l) x _ (then_later (length_in s t y x) _ (length-later t y x) (λ z x. elements-later c (upward z) t l x))
 
-  constant-later : (t : List ℕ) (st e : ℕ) (w : Tree) (x : State) → LaterB (constantIn s t st e w x)
-  unfolding constantIn
+  constant-later : (t : List ℕ) (st e : ℕ) (w : Tree) (x : State) → LaterB (constant_in s t st e w x)
+  unfolding constant_in
   constant-later t st e w x =
       pick_later (is_known (looked_up s t st (e - st))) (bad 4 st x) _ four
       (pick_later (allows x.0 constants_at 32) _ (bad 6 st x)
       (then_later (eval (reads s t) 1 w (one_more x.0 constants_at 32, x.1)) _ (eval-later s t w 1 (one_more x.0 constants_at 32, x.1)) (λ z y. tt)) six)
 
-  declared-later : (v : Declarations) (x : State) → LaterB (declaredIn s v x)
-  unfolding declaredIn
+  declared-later : (v : Declarations) (x : State) → LaterB (declared_in s v x)
+  unfolding declared_in
   declared-later undeclared x = tt
-  declared-later (constant v st e w) x = then_later (declaredIn s v x) _ (declared-later v x) (λ t y. constant-later t st e w y)
-  declared-later (signals v k l y) x = then_later (declaredIn s v x) _ (declared-later v x) (λ t x. signals-later t (k - 208) l y x)
+  declared-later (constant v st e w) x = then_later (declared_in s v x) _ (declared-later v x) (λ t y. constant-later t st e w y)
+  declared-later (signals v k l y) x = then_later (declared_in s v x) _ (declared-later v x) (λ t x. signals-later t (k - 208) l y x)
 
 -- ---- along the text
 
@@ -290,9 +290,9 @@ after_later (built v y) f h g = g v y
 after_later (bad n p y) f h g = h
 
 module _ (s : List ℕ) (small : length s ≤ 65535) (m : Module Declarations Statements) (e : ℕ) (tree : parsed_text s ≡ ok m e tt) where
-  pub declarations_later : (x : State) → LaterIn (declarationsOf s m.declarations x)
+  pub declarations_later : (x : State) → LaterIn (declarations_of s m.declarations x)
   declarations_later x =
-      subst LaterIn (sym ((tree_agrees s small m e tree).declares x)) (after_later (declaredIn s m.declared x) _ (declared-later s m.declared x) (λ t y. tt))
+      subst LaterIn (sym ((tree_agrees s small m e tree).declares x)) (after_later (declared_in s m.declared x) _ (declared-later s m.declared x) (λ t y. tt))
 
   pub statements_later : (t : List ℕ) (x : State) → LaterIn (statements_of s levels t m.statements x)
   statements_later t x =

@@ -16,15 +16,15 @@ use Rattle.words.specs.Words.{next_word}
 use Rattle.names.specs.Names.{looked_up, extended, spelling, same}
 use Rattle.grammar.specs.Outcome.{Outcome, ok, no, built, bad, more, last, after_built}
 use Rattle.grammar.specs.Trees.{trees}
-use Rattle.grammar.specs.Modules.{nameTurn, anotherName, nameList}
+use Rattle.grammar.specs.Modules.{name_turn, another_name, name_list}
 use Rattle.grammar.specs.Forms.{Names, first_name, and_name, tree_forms}
 use Rattle.judging.specs.Reading.{State}
 use Rattle.parts.specs.Parts.{elements_at, declared_from}
 use Rattle.lists.specs.Lists.{is_known, back_of, is_back, fresh_name, fresh_turn, fresh_of}
 use Rattle.lists.proofs.Laws.{back, rest, fresh_more, fresh_last}
-use Rattle.declare.specs.Declarations.{width_of, element_name, elementTurn, elements_of}
+use Rattle.declare.specs.Declarations.{width_of, element_name, element_turn, elements_of}
 use Rattle.declare.proofs.Laws.{elements, elements_more, elements_last}
-use Rattle.treewise.specs.Declared.{Fresh, new, old, also_new, element_in, elements_in, standsIn, freshIn}
+use Rattle.treewise.specs.Declared.{Fresh, new, old, also_new, element_in, elements_in, stands_in, fresh_in}
 use Rattle.treewise.proofs.Trace.{When, when_t_pick, when_repeat, when_t_word, Stands}
 use Rattle.treewise.proofs.Loops.{after_then, after_alike}
 use Rattle.lists.proofs.Spelt.{Lies, name_lies, comma_lies}
@@ -64,20 +64,20 @@ module _ (s : List ℕ) where
         held = (set (declared_from y.0 k st m (width_of n)) elements_at (m + width_of n), y.1)
 
         go : (b : Bool) → leb (m + width_of n) 64 ≡ b → elements s k n t at y ≡ after_built (pick b (built names held) (bad 6 st y)) (λ u z. elements s k n u c.at z)
-        go true b = elements_more s k n t names at c.at y held (unfold elementTurn element_name in rw (q, b) refl)
-        go false b = elements_last s k n t at y (no 6 st y) (unfold elementTurn element_name in rw (q, b) refl)
+        go true b = elements_more s k n t names at c.at y held (unfold element_turn element_name in rw (q, b) refl)
+        go false b = elements_last s k n t at y (no 6 st y) (unfold element_turn element_name in rw (q, b) refl)
 
     element-comma : next_word s at ≡ Word 44 st v c → (k n : ℕ) (t : List ℕ) (y : State) → elements s k n t at y ≡ elements s k n t c.at y
     element-comma q k n t y = elements_more s k n t t at c.at y y turned_on
       where
-        turned_on : elementTurn s k n t at y ≡ more t c.at y
-        turned_on = unfold elementTurn in rw q refl
+        turned_on : element_turn s k n t at y ≡ more t c.at y
+        turned_on = unfold element_turn in rw q refl
 
   pub element_colon : (at e k n : ℕ) (t : List ℕ) (y : State) → Stands s 58 at e → elements s k n t at y ≡ ok t at y
   element_colon at e k n t y w = elements_last s k n t at y (ok t at y) turned-last
     where
-      turned-last : elementTurn s k n t at y ≡ last (ok t at y)
-      turned-last = unfold elementTurn in rw w.taken refl
+      turned-last : element_turn s k n t at y ≡ last (ok t at y)
+      turned-last = unfold element_turn in rw w.taken refl
 
   module _ (first : ℕ) where
     fresh-comma : (t : List ℕ) (at st v : ℕ) (c : Cursor) → next_word s at ≡ Word 44 st v c → rest s t first at ≡ rest s t first c.at
@@ -105,12 +105,12 @@ module _ (s : List ℕ) where
 
     -- names from the first to a place: who is among them, whether they are new, their elements
     pub record NamesAre (l : Names) (i : ℕ) : Type 0 where
-      pub walked : (st e : ℕ) → Lies s i st e true → is_back (back s st e first) ≡ (standsIn s l st e || is_back (back s st e i))
-      pub fresh : (t : List ℕ) → fresh_of s t first ≡ fresh_then (freshIn s t l) (rest s t first i)
+      pub walked : (st e : ℕ) → Lies s i st e true → is_back (back s st e first) ≡ (stands_in s l st e || is_back (back s st e i))
+      pub fresh : (t : List ℕ) → fresh_of s t first ≡ fresh_then (fresh_in s t l) (rest s t first i)
       pub made : (k n : ℕ) (t : List ℕ) (y : State) → elements_of s k n t first y ≡ after_built (elements_in k n t l y) (λ u z. elements s k n u i z)
 
     first-are : (st v : ℕ) (c : Cursor) → next_word s first ≡ Word 1 st v c → NamesAre (first_name st c.at) c.at
-    unfolding standsIn freshIn elements_in fresh_of elements_of
+    unfolding stands_in fresh_in elements_in fresh_of elements_of
     first-are st v c q = record {
       walked = λ st' e' h. back_name s first st v c q st' e' h;
       fresh = λ t. fresh_at t first st v c false q (back_self s first st v c q c.at) ∙ ap (λ (b : Bool). fresh_then (pick b (old st) new) (rest s t first c.at)) (or_none (is_known (looked_up s t st (c.at - st))));
@@ -119,17 +119,17 @@ module _ (s : List ℕ) where
 
     another-are : (l : Names) (i st₁ v₁ : ℕ) (c₁ : Cursor) (st v : ℕ) (c : Cursor) → next_word s i ≡ Word 44 st₁ v₁ c₁ → next_word s c₁.at ≡ Word 1 st v c
         → NamesAre l i → NamesAre (and_name l st c.at) c.at
-    unfolding standsIn freshIn elements_in
+    unfolding stands_in fresh_in elements_in
     another-are l i st₁ v₁ c₁ st v c q₁ q m = record {
       walked = λ st' e' h.
           m.walked st' e' (nearer s i c.at st' e' true far h)
-          ∙ ap (λ (b : Bool). standsIn s l st' e' || b)
+          ∙ ap (λ (b : Bool). stands_in s l st' e' || b)
           (ap is_back (back_comma s i st₁ v₁ c₁ q₁ st' e' (nearer s c₁.at c.at st' e' true far₁ h)) ∙ back_name s c₁.at st v c q st' e' h)
-          ∙ or_moves (standsIn s l st' e') (same (spelling s st (c.at - st)) (spelling s st' (e' - st'))) (is_back (back s st' e' c.at));
+          ∙ or_moves (stands_in s l st' e') (same (spelling s st (c.at - st)) (spelling s st' (e' - st'))) (is_back (back s st' e' c.at));
       fresh = λ t.
           m.fresh t
-          ∙ ap (fresh_then (freshIn s t l)) (fresh-comma t i st₁ v₁ c₁ q₁ ∙ fresh_at t c₁.at st v c (standsIn s l st c.at) q before)
-          ∙ fresh_also (freshIn s t l) (pick (is_known (looked_up s t st (c.at - st)) || standsIn s l st c.at) (old st) new) (rest s t first c.at);
+          ∙ ap (fresh_then (fresh_in s t l)) (fresh-comma t i st₁ v₁ c₁ q₁ ∙ fresh_at t c₁.at st v c (stands_in s l st c.at) q before)
+          ∙ fresh_also (fresh_in s t l) (pick (is_known (looked_up s t st (c.at - st)) || stands_in s l st c.at) (old st) new) (rest s t first c.at);
       made = λ k n t y.
           m.made k n t y
           ∙ after_alike (elements_in k n t l y) (λ u z. elements s k n u i z) (λ u z. after_built (element_in k n u st c.at z) (λ u z. elements s k n u c.at z))
@@ -152,16 +152,16 @@ module _ (s : List ℕ) where
         far : i ≤ c.at
         far = let a : i ≤ c₁.at = near in let b : c₁.at ≤ c.at = far₁ in omega arith
 
-        before : is_back (back s st c.at first) ≡ standsIn s l st c.at
+        before : is_back (back s st c.at first) ≡ stands_in s l st c.at
         before =
             m.walked st c.at (nearer s i c₁.at st c.at true near name)
-            ∙ ap (λ (b : Bool). standsIn s l st c.at || b) (ap is_back (back_comma s i st₁ v₁ c₁ q₁ st c.at name) ∙ back_self s c₁.at st v c q c.at)
-            ∙ or_none (standsIn s l st c.at)
+            ∙ ap (λ (b : Bool). stands_in s l st c.at || b) (ap is_back (back_comma s i st₁ v₁ c₁ q₁ st c.at name) ∙ back_self s c₁.at st v c q c.at)
+            ∙ or_none (stands_in s l st c.at)
 
-    pub names_are : (st v : ℕ) (c : Cursor) → next_word s first ≡ Word 1 st v c → When NamesAre (nameList trees tree_forms s st c.at tt)
-    unfolding nameList nameTurn anotherName
+    pub names_are : (st v : ℕ) (c : Cursor) → next_word s first ≡ Word 1 st v c → When NamesAre (name_list trees tree_forms s st c.at tt)
+    unfolding name_list name_turn another_name
     names_are st v c q =
-        when_repeat NamesAre NamesAre (nameTurn trees tree_forms s) (λ l i m.
+        when_repeat NamesAre NamesAre (name_turn trees tree_forms s) (λ l i m.
         when_t_word s NamesAre NamesAre i _ (λ k st₁ v₁ c₁ q₁.
         when_t_pick NamesAre NamesAre (eqb k 44) _ (last (ok l i tt))
         (λ b. when_t_word s NamesAre NamesAre c₁.at _ (λ k₂ st₂ v₂ c₂ q₂.

@@ -17,12 +17,12 @@ use Rattle.integers.specs.Integers.{nextℤ, rounds_of}
 use Rattle.grammar.specs.Outcome.{Outcome, ok, no, Built, built, bad, Turn, more, last, and_then, built_at, after_built, and_built}
 use Rattle.grammar.specs.Grammar.{closed}
 use Rattle.grammar.specs.Trees.{Tree, trees, eval, parsed}
-use Rattle.grammar.specs.Modules.{must, then_turn, up_to, given, simple, statement, statementTurn as treeTurn, statements, looped, ranged, forFrom as treeForFrom, for_of as tree_for, sequence}
+use Rattle.grammar.specs.Modules.{must, then_turn, up_to, given, simple, statement, statement_turn as treeTurn, statements, looped, ranged, for_from as treeForFrom, for_of as tree_for, sequence}
 use Rattle.grammar.specs.Forms.{Statements, nothing, and_statement, loop, tree_forms}
 use Rattle.judging.specs.Reading.{State, reads}
 use Rattle.parts.specs.Parts.{used_at, allows, one_more}
-use Rattle.simple.specs.Statements.{simpleOf}
-use Rattle.unroll.specs.Loops.{with_loop, passed_of, range, upperOf, lowerOf, range_of, headerOf, roundOf, turnsOf, loop_of, forFrom, again, statementTurn, statementsWith, for_of, statements_of}
+use Rattle.simple.specs.Statements.{simple_of}
+use Rattle.unroll.specs.Loops.{with_loop, passed_of, range, upper_of, lower_of, range_of, header_of, round_of, turns_of, loop_of, for_from, again, statement_turn, statements_with, for_of, statements_of}
 use Rattle.unroll.proofs.Laws.{rest, statements_more, statements_last}
 use Rattle.treewise.specs.Unrolled.{counted, rounds_in, carried}
 use Rattle.treewise.proofs.Trace.{When, when_pick, when_then, when_is, when_self, when_t_pick, when_t_then, when_repeat, when_word, when_t_word, when_closed, Stands}
@@ -82,11 +82,11 @@ module _ (s : List ℕ) (small : length s ≤ 65535) where
     again-settled (ok v e y) = refl
     again-settled (no n p y) = refl
 
-    run_on : (i e : ℕ) (y : State) (r : Outcome State ℤ) (b : Built State (Unit {0})) → statementTurn s t d (for_of s d t) (pos 0) i y ≡ again s t d (for_of s d t) r
+    run_on : (i e : ℕ) (y : State) (r : Outcome State ℤ) (b : Built State (Unit {0})) → statement_turn s t d (for_of s d t) (pos 0) i y ≡ again s t d (for_of s d t) r
         → settled r ≡ built_at e b → rest s t d i y ≡ after_built b (λ u z. rest s t d e z)
     run_on i e y r b q h = go b (q ∙ again-settled r ∙ ap again_on h)
       where
-        go : (b : Built State (Unit {0})) → statementTurn s t d (for_of s d t) (pos 0) i y ≡ again_on (built_at e b) → rest s t d i y ≡ after_built b (λ u z. rest s t d e z)
+        go : (b : Built State (Unit {0})) → statement_turn s t d (for_of s d t) (pos 0) i y ≡ again_on (built_at e b) → rest s t d i y ≡ after_built b (λ u z. rest s t d e z)
         go (built u z) q = statements_more s t d (pos 0) i e y z q
         go (bad n p z) q = statements_last s t d i y (no n p z) q
 
@@ -100,26 +100,26 @@ module _ (s : List ℕ) (small : length s ≤ 65535) where
         when_word s (Step i) i _ (λ k st v c q.
         when_pick (Step i) (eqb k 1) (simple trees tree_forms s d st c.at tt) _
         (λ b. when_self (Step i) (simple trees tree_forms s d st c.at tt) (λ u e h y.
-        run_on i e y (simpleOf s t d st c.at y) (carried s t u y) (unfold statementTurn in rw (q, b) refl)
-        (when_is (λ u e. settled (simpleOf s t d st c.at y) ≡ built_at e (carried s t u y)) (simple trees tree_forms s d st c.at tt) u e h
+        run_on i e y (simple_of s t d st c.at y) (carried s t u y) (unfold statement_turn in rw (q, b) refl)
+        (when_is (λ u e. settled (simple_of s t d st c.at y) ≡ built_at e (carried s t u y)) (simple trees tree_forms s d st c.at tt) u e h
         (simple_is s t d small i st v c (q ∙ ap (λ (n : ℕ). Word n st v c) (eqb-true k 1 b)) y)))) (λ a.
         when_pick (Step i) (eqb k 200) (tree_for trees tree_forms s d st c.at tt) (ok nothing i tt)
         (λ b. when_self (Step i) (tree_for trees tree_forms s d st c.at tt) (λ u e h y.
-        run_on i e y (for_of s d t st c.at y) (carried s t u y) (unfold statementTurn in rw (q, a, b) refl)
+        run_on i e y (for_of s d t st c.at y) (carried s t u y) (unfold statement_turn in rw (q, a, b) refl)
         (when_is (λ u e. settled (for_of s d t st c.at y) ≡ built_at e (carried s t u y)) (tree_for trees tree_forms s d st c.at tt) u e h (loops st c.at y))))
         (λ b y. refl)))
 
     over-semicolon : (e k st v : ℕ) (c : Cursor) (z : State) → next_word s e ≡ Word k st v c → eqb k 59 ≡ true → rest s t d e z ≡ rest s t d c.at z
     over-semicolon e k st v c z q b = statements_more s t d (pos 0) e c.at z z turned
       where
-        turned : statementTurn s t d (for_of s d t) (pos 0) e z ≡ more (pos 0) c.at z
-        turned = unfold statementTurn in rw (q, eqb-true k 59 b) refl
+        turned : statement_turn s t d (for_of s d t) (pos 0) e z ≡ more (pos 0) c.at z
+        turned = unfold statement_turn in rw (q, eqb-true k 59 b) refl
 
     at-end : (e n : ℕ) (z : State) → Stands s 202 e n → rest s t d e z ≡ ok (pos 0) e z
     at-end e n z w = statements_last s t d e z (ok (pos 0) e z) turned
       where
-        turned : statementTurn s t d (for_of s d t) (pos 0) e z ≡ last (ok (pos 0) e z)
-        turned = unfold statementTurn in rw w.taken refl
+        turned : statement_turn s t d (for_of s d t) (pos 0) e z ≡ last (ok (pos 0) e z)
+        turned = unfold statement_turn in rw w.taken refl
 
     -- statements from a place and a state
     module _ (at : ℕ) (x : State) where
@@ -149,8 +149,8 @@ module _ (s : List ℕ) (small : length s ≤ 65535) where
   module _ (d : ℕ) (t : List ℕ) (p st e q n r : ℕ) (u : Statements)
       (body : (l : List ℕ) (y : State) → settled (statements_of s d l q y) ≡ built_at n (carried s l u y)) where
     round_is : (z : ℤ) (x : State)
-        → settled (roundOf s t (λ l q y. statementsWith s l d (for_of s d l) q y) p st e q z x) ≡ built_at n (counted p (carried s (with_loop t st e z) u) x)
-    unfolding roundOf counted
+        → settled (round_of s t (λ l q y. statements_with s l d (for_of s d l) q y) p st e q z x) ≡ built_at n (counted p (carried s (with_loop t st e z) u) x)
+    unfolding round_of counted
     round_is z x = go (allows x.0 used_at 4096)
       where
         go : (b : Bool)
@@ -164,54 +164,54 @@ module _ (s : List ℕ) (small : length s ≤ 65535) where
     settled-then (no k w y) f = refl
 
     turns-are : (m : ℕ) (z : ℤ) (x : State)
-        → settled (turnsOf s t (λ l q y. statementsWith s l d (for_of s d l) q y) p st e q r m z x) ≡ built_at r (rounds_in (λ l y. carried s l u y) t p st e m z x)
-    unfolding turnsOf rounds_in
+        → settled (turns_of s t (λ l q y. statements_with s l d (for_of s d l) q y) p st e q r m z x) ≡ built_at r (rounds_in (λ l y. carried s l u y) t p st e m z x)
+    unfolding turns_of rounds_in
     turns-are zero z x = refl
     turns-are (suc m) z x =
-        settled-then (roundOf s t (λ l q y. statementsWith s l d (for_of s d l) q y) p st e q z x)
-        (λ y. turnsOf s t (λ l q y. statementsWith s l d (for_of s d l) q y) p st e q r m (nextℤ z) y)
-        ∙ ap (λ (o : Outcome State (Unit {0})). and_then o (λ v at y. settled (turnsOf s t (λ l q y. statementsWith s l d (for_of s d l) q y) p st e q r m (nextℤ z) y)))
+        settled-then (round_of s t (λ l q y. statements_with s l d (for_of s d l) q y) p st e q z x)
+        (λ y. turns_of s t (λ l q y. statements_with s l d (for_of s d l) q y) p st e q r m (nextℤ z) y)
+        ∙ ap (λ (o : Outcome State (Unit {0})). and_then o (λ v at y. settled (turns_of s t (λ l q y. statements_with s l d (for_of s d l) q y) p st e q r m (nextℤ z) y)))
         (round_is z x)
         ∙ go (counted p (carried s (with_loop t st e z) u) x) (λ y. turns-are m (nextℤ z) y)
       where
         go : (b : Built State (Unit {0}))
-            → ((y : State) → settled (turnsOf s t (λ l q y. statementsWith s l d (for_of s d l) q y) p st e q r m (nextℤ z) y) ≡ built_at r (rounds_in (λ l y. carried s l u y) t p st e m (nextℤ z) y))
-            → and_then (built_at n b) (λ v at y. settled (turnsOf s t (λ l q y. statementsWith s l d (for_of s d l) q y) p st e q r m (nextℤ z) y))
+            → ((y : State) → settled (turns_of s t (λ l q y. statements_with s l d (for_of s d l) q y) p st e q r m (nextℤ z) y) ≡ built_at r (rounds_in (λ l y. carried s l u y) t p st e m (nextℤ z) y))
+            → and_then (built_at n b) (λ v at y. settled (turns_of s t (λ l q y. statements_with s l d (for_of s d l) q y) p st e q r m (nextℤ z) y))
             ≡ built_at r (and_built b (λ v y. rounds_in (λ l y. carried s l u y) t p st e m (nextℤ z) y))
         go (built v y) ih = ih y
         go (bad k w y) ih = refl
 
     -- behind DO
     loop-is : (a b : ℤ) (x : State) → passed_of s q ≡ ok 0 r tt
-        → settled (loop_of s t (λ l q y. statementsWith s l d (for_of s d l) q y) p st e a b q x) ≡ built_at r (rounds_in (λ l y. carried s l u y) t p st e (rounds_of a b) a x)
+        → settled (loop_of s t (λ l q y. statements_with s l d (for_of s d l) q y) p st e a b q x) ≡ built_at r (rounds_in (λ l y. carried s l u y) t p st e (rounds_of a b) a x)
     unfolding loop_of
     loop-is a b x h = rw h (turns-are (rounds_of a b) a x)
 
     module _ (passed : passed_of s q ≡ ok 0 r tt) (w₂ : Tree) (at₂ : ℕ) (upper : Ends s d 201 at₂ w₂ q) where
       upper_is : (a : ℤ) (x : State)
-          → settled (and_then (upperOf s t d st e a at₂ x) (λ h q y. loop_of s t (λ l q y. statementsWith s l d (for_of s d l) q y) p h.first h.past h.low h.high q y))
+          → settled (and_then (upper_of s t d st e a at₂ x) (λ h q y. loop_of s t (λ l q y. statements_with s l d (for_of s d l) q y) p h.first h.past h.low h.high q y))
           ≡ built_at r (and_built (eval (reads s t) 1 w₂ x) (λ b z. rounds_in (λ l y. carried s l u y) t p st e (rounds_of a b) a z))
-      unfolding upperOf
+      unfolding upper_of
       upper_is a x = rw (read_is s t d 1 at₂ x w₂ upper.0 upper.1) (go (eval (reads s t) 1 w₂ x))
         where
           go : (b : Built State ℤ)
               → settled (and_then (and_then (built_at upper.0 b) (λ b at y. and_then (closed s 201 b at y) (λ b q y. ok (range st e a b) q y)))
-              (λ h q y. loop_of s t (λ l q y. statementsWith s l d (for_of s d l) q y) p h.first h.past h.low h.high q y))
+              (λ h q y. loop_of s t (λ l q y. statements_with s l d (for_of s d l) q y) p h.first h.past h.low h.high q y))
               ≡ built_at r (and_built b (λ b z. rounds_in (λ l y. carried s l u y) t p st e (rounds_of a b) a z))
           go (built b z) = rw (closed_is s 201 b upper.0 q z upper.2) (loop-is a b z passed)
           go (bad k v z) = refl
 
       module _ (w₁ : Tree) (lower : GivenEnds s d 174 e w₁ at₂) where
         range-is : (x : State)
-            → settled (and_then (range_of s t d st e x) (λ h q y. loop_of s t (λ l q y. statementsWith s l d (for_of s d l) q y) p h.first h.past h.low h.high q y))
+            → settled (and_then (range_of s t d st e x) (λ h q y. loop_of s t (λ l q y. statements_with s l d (for_of s d l) q y) p h.first h.past h.low h.high q y))
             ≡ built_at r (carried s t (loop p st e w₁ w₂ q u) x)
-        unfolding range_of lowerOf carried
+        unfolding range_of lower_of carried
         range-is x =
             rw (lower.1.taken, lower.1.ends, read_is s t d 1 lower.0 x w₁ lower.2.0 lower.2.1) (go (eval (reads s t) 1 w₁ x))
           where
             go : (b : Built State ℤ)
-                → settled (and_then (and_then (built_at lower.2.0 b) (λ a at y. and_then (closed s 174 a at y) (upperOf s t d st e)))
-                (λ h q y. loop_of s t (λ l q y. statementsWith s l d (for_of s d l) q y) p h.first h.past h.low h.high q y))
+                → settled (and_then (and_then (built_at lower.2.0 b) (λ a at y. and_then (closed s 174 a at y) (upper_of s t d st e)))
+                (λ h q y. loop_of s t (λ l q y. statements_with s l d (for_of s d l) q y) p h.first h.past h.low h.high q y))
                 ≡ built_at r (and_built b (λ a y. and_built (eval (reads s t) 1 w₂ y) (λ b z. rounds_in (λ l y. carried s l u y) t p st e (rounds_of a b) a z)))
             go (built a y) = rw (closed_is s 174 a lower.2.0 at₂ y lower.2.2) (upper_is a y)
             go (bad k v y) = refl
@@ -219,7 +219,7 @@ module _ (s : List ℕ) (small : length s ≤ 65535) where
   -- behind a FOR with levels left
   for-is : (d : ℕ) → d < 200 → (t : List ℕ) (p at : ℕ) (x : State)
       → When (λ u e. settled (for_of s d t p at x) ≡ built_at e (carried s t u x)) (tree_for trees tree_forms s d p at tt)
-  unfolding for_of tree_for forFrom headerOf treeForFrom ranged looped Ran
+  unfolding for_of tree_for for_from header_of treeForFrom ranged looped Ran
   for-is zero small-d t p at x = tt
   for-is (suc d) small-d t p at x = go (λ l p at x. for-is d (omega arith) l p at x)
     where

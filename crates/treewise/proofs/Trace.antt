@@ -15,7 +15,7 @@ use Rattle.words.specs.declared.Taken.{Taken}
 use Rattle.words.specs.declared.Taken.TheVariants.{Word, Refused}
 use Rattle.words.specs.Words.{next_word}
 use Rattle.grammar.specs.Outcome.{Outcome, ok, no, Turn, more, last, on_word, and_then}
-use Rattle.grammar.specs.Grammar.{is_sum, is_product, index_sort, part_sort, closed, turnWith, turnOn, on_turn, turn, chain, level, part, dotted, bracketed, pointed, named, muxThird, muxSecond, muxed, kept, regged, inverted, factor, term, expression, nested}
+use Rattle.grammar.specs.Grammar.{is_sum, is_product, index_sort, part_sort, closed, turn_with, turn_on, on_turn, turn, chain, level, part, dotted, bracketed, pointed, named, mux_third, mux_second, muxed, kept, regged, inverted, factor, term, expression, nested}
 use Rattle.grammar.specs.Trees.{Tree, literal, logic, plain, hold, trees, parsed}
 use Rattle.grammar.specs.Modules.{then_turn, word_turn, repeat}
 use Rattle.unroll.specs.Loops.{pass_turn}
@@ -213,8 +213,8 @@ module _ (s : List ℕ) where
 
   module _ (o : ℕ) (among : ℕ → Bool) (operand operand' : ℕ → Unit {0} → Parse) (calm : CalmOnes among)
       (same : (at : ℕ) → Traced at (operand at tt) (operand' at tt)) where
-    traced-with : (at e : ℕ) (t : Tree) (k st : ℕ) (r r' : Parse) → Steady at e → Traced e r r' → TracedT at (turnWith trees o t k st r) (turnWith trees o t k st r')
-    traced-with at e t k st (ok w e' u) r' h q = ((λ l. h l ∙ q.0 l), ap (λ (r : Parse). turnWith trees o t k st r) q.1)
+    traced-with : (at e : ℕ) (t : Tree) (k st : ℕ) (r r' : Parse) → Steady at e → Traced e r r' → TracedT at (turn_with trees o t k st r) (turn_with trees o t k st r')
+    traced-with at e t k st (ok w e' u) r' h q = ((λ l. h l ∙ q.0 l), ap (λ (r : Parse). turn_with trees o t k st r) q.1)
     traced-with at e t k st (no n p u) r' h q = tt
 
     traced-turn : (at : ℕ) (t : Tree) → TracedT at (turn trees s o among operand t at tt) (turn trees s o among operand' t at tt)
@@ -222,11 +222,11 @@ module _ (s : List ℕ) where
     traced-turn at t = go (next_word s at) refl
       where
         choice : (k st : ℕ) (c : Cursor) → ((l : ℕ) → Calm k → passing s l at ≡ passing s l c.at) → (b : Bool) → among k ≡ b
-            → TracedT at (pick b (turnWith trees o t k st (operand c.at tt)) (last (ok t at tt))) (pick b (turnWith trees o t k st (operand' c.at tt)) (last (ok t at tt)))
+            → TracedT at (pick b (turn_with trees o t k st (operand c.at tt)) (last (ok t at tt))) (pick b (turn_with trees o t k st (operand' c.at tt)) (last (ok t at tt)))
         choice k st c h true e = traced-with at c.at t k st (operand c.at tt) (operand' c.at tt) (λ l. h l (calm k e)) (same c.at)
         choice k st c h false e = ((λ l. refl), refl)
 
-        go : (w : Taken) → next_word s at ≡ w → TracedT at (turnOn trees s o among operand t at tt w) (turnOn trees s o among operand' t at tt w)
+        go : (w : Taken) → next_word s at ≡ w → TracedT at (turn_on trees s o among operand t at tt w) (turn_on trees s o among operand' t at tt w)
         go (Word k st v c) q = choice k st c (λ l m. pass_calm l at k st v c q m) (among k) refl
         go (Refused n p) q = tt
 
@@ -290,16 +290,16 @@ module _ (s : List ℕ) where
         traced-pick from (eqb k 46) (pointed trees s o st e p nx tt) (ok (plain st e) e tt) (pointed trees s o st e p nx tt) (ok (plain st e) e tt)
         (λ b. traced-pointed from o st e p nx (m (calm_of k 46 (refl, refl, refl) b))) (λ b. (h, refl))))
 
-    traced-third : (from o p q : ℕ) (a b : Tree) (at : ℕ) → Steady from at → Traced from (muxThird trees s inner o p q a b at tt) (muxThird trees s inner' o p q a b at tt)
-    unfolding muxThird
+    traced-third : (from o p q : ℕ) (a b : Tree) (at : ℕ) → Steady from at → Traced from (mux_third trees s inner o p q a b at tt) (mux_third trees s inner' o p q a b at tt)
+    unfolding mux_third
     traced-third from o p q a b at h =
         traced-then from (part trees s inner (part_sort o) q 41 at tt) (part trees s inner' (part_sort o) q 41 at tt) _ _
         (traced-part from (part_sort o) q 41 at (refl, refl, refl) h) (λ t e h. (h, refl))
 
-    traced-second : (from o p q : ℕ) (a : Tree) (at : ℕ) → Steady from at → Traced from (muxSecond trees s inner o p q a at tt) (muxSecond trees s inner' o p q a at tt)
-    unfolding muxSecond
+    traced-second : (from o p q : ℕ) (a : Tree) (at : ℕ) → Steady from at → Traced from (mux_second trees s inner o p q a at tt) (mux_second trees s inner' o p q a at tt)
+    unfolding mux_second
     traced-second from o p q a at h =
-        traced-then from (part trees s inner (part_sort o) q 44 at tt) (part trees s inner' (part_sort o) q 44 at tt) (muxThird trees s inner o p q a) (muxThird trees s inner' o p q a)
+        traced-then from (part trees s inner (part_sort o) q 44 at tt) (part trees s inner' (part_sort o) q 44 at tt) (mux_third trees s inner o p q a) (mux_third trees s inner' o p q a)
         (traced-part from (part_sort o) q 44 at (refl, refl, refl) h) (λ t e h. traced-third from o p q a t e h)
 
     traced-muxed : (from o p at : ℕ) → Steady from at → Traced from (muxed trees s inner o p at tt) (muxed trees s inner' o p at tt)
@@ -307,7 +307,7 @@ module _ (s : List ℕ) where
     traced-muxed from o p at h =
         traced-word from at _ _ h (λ k q v nx m.
         traced-pick from (eqb k 40) _ (no 2 q tt) _ (no 2 q tt)
-        (λ b. traced-then from (part trees s inner (part_sort o) q 58 nx tt) (part trees s inner' (part_sort o) q 58 nx tt) (muxSecond trees s inner o p q) (muxSecond trees s inner' o p q)
+        (λ b. traced-then from (part trees s inner (part_sort o) q 58 nx tt) (part trees s inner' (part_sort o) q 58 nx tt) (mux_second trees s inner o p q) (mux_second trees s inner' o p q)
         (traced-part from (part_sort o) q 58 nx (refl, refl, refl) (m (calm_of k 40 (refl, refl, refl) b))) (λ t e h. traced-second from o p q t e h)) (λ b. tt))
 
     traced-kept : (from o p q : ℕ) (a : Tree) (at : ℕ) → Steady from at → Traced from (kept trees s inner o p q a at tt) (kept trees s inner' o p q a at tt)

@@ -12,17 +12,17 @@ use borrow.Author.Tests.{leb-true}
 use Rattle.basics.specs.Choice.{pick}
 use Rattle.grammar.specs.Outcome.{Outcome, ok, no, Built, built, bad, and_then, after_built, levels}
 use Rattle.grammar.specs.Trees.{trees}
-use Rattle.grammar.specs.Modules.{Module, must, sequence, declarations, begun, headed, sameName, ended, headless, wholeText}
+use Rattle.grammar.specs.Modules.{Module, must, sequence, declarations, begun, headed, same_name, ended, headless, whole_text}
 use Rattle.grammar.specs.Forms.{Statements, nothing, Declarations, tree_forms, parsed_text, checked_text}
 use Rattle.grammar.proofs.Alike.{Like, Places, checked_text_lem}
 use Rattle.judging.specs.Reading.{State}
-use Rattle.declare.specs.Declarations.{declarationsOf}
-use Rattle.unroll.specs.Loops.{statementTurn, statements_of}
+use Rattle.declare.specs.Declarations.{declarations_of}
+use Rattle.unroll.specs.Loops.{statement_turn, statements_of}
 use Rattle.unroll.proofs.Laws.{statements_last}
 use Rattle.texts.specs.Stages.{refused, unrolled, fourth, declared, third, checked, second, front_of}
 use Rattle.texts.specs.Meaning.{meaning, circuit_in}
 use Rattle.treewise.specs.Unrolled.{carried}
-use Rattle.treewise.specs.Declared.{declaredIn}
+use Rattle.treewise.specs.Declared.{declared_in}
 use Rattle.treewise.specs.Staged.{unrolled_in, fourth_in, declared_on, third_in, parsed_on, front_in, meaning_in}
 use Rattle.treewise.proofs.Trace.{When, when_pick, when_then, when_is, when_self, when_word, when_closed, Stands}
 use Rattle.treewise.proofs.Loops.{sequence_is}
@@ -31,7 +31,7 @@ use Rattle.treewise.proofs.Declares.{declarations_are}
 -- stages 3 and 4 from the places of a module are those of its tree, among all names and from every state
 pub record Agrees (s : List ℕ) (m : Module Declarations Statements) : Type 0 where
   pub declared_to : ℕ
-  pub declares : (x : State) → declarationsOf s m.declarations x ≡ after_built (declaredIn s m.declared x) (λ t y. ok t declared_to y)
+  pub declares : (x : State) → declarations_of s m.declarations x ≡ after_built (declared_in s m.declared x) (λ t y. ok t declared_to y)
   pub carried_to : ℕ
   pub carries : (t : List ℕ) (x : State) → statements_of s levels t m.statements x ≡ after_built (carried s t m.body x) (λ u y. ok (pos 0) carried_to y)
 
@@ -43,7 +43,7 @@ module _ (s : List ℕ) (small : length s ≤ 65535) where
 
   -- a module without statements
   none-begun : (at e : ℕ) (t : List ℕ) (x : State) → Stands s 202 at e → statements_of s levels t at x ≡ ok (pos 0) at x
-  none-begun at e t x w = statements_last s t levels at x (ok (pos 0) at x) (unfold statementTurn in rw w.taken refl)
+  none-begun at e t x w = statements_last s t levels at x (ok (pos 0) at x) (unfold statement_turn in rw w.taken refl)
 
   begun-is : (at : ℕ) → When Begun (begun trees tree_forms s at tt)
   unfolding begun Begun carried
@@ -57,7 +57,7 @@ module _ (s : List ℕ) (small : length s ≤ 65535) where
   unfolding ended
   ended_is st e at =
       when_then (λ u n. (m : ℕ) × Stands s 202 at m) (must s 202 at tt) _ (λ u m q.
-      when_self (λ u n. (m : ℕ) × Stands s 202 at m) (and_then (sameName trees tree_forms s st e m tt) (λ u at x. and_then (must s 46 at x) (λ u at x. must s 0 at x))) (λ v n h.
+      when_self (λ u n. (m : ℕ) × Stands s 202 at m) (and_then (same_name trees tree_forms s st e m tt) (λ u at x. and_then (must s 46 at x) (λ u at x. must s 0 at x))) (λ v n h.
       (m, when_is (λ u j. Stands s 202 at j) (must s 202 at tt) tt m q (when_closed s (λ u j. Stands s 202 at j) 202 tt at (λ e o. o)))))
 
   headless-is : (st e at : ℕ) → When (λ m n. Agrees s m) (headless trees tree_forms s st e at tt)
@@ -69,13 +69,13 @@ module _ (s : List ℕ) (small : length s ≤ 65535) where
       let end : (m : ℕ) × Stands s 202 n m = when_is (λ u n'. (m : ℕ) × Stands s 202 n m) (ended trees tree_forms s st e n tt) w r g (ended_is st e n) in
       record {
         declared_to = b;
-        declares = λ x. when_is (λ v e. declarationsOf s at x ≡ after_built (declaredIn s v x) (λ t y. ok t e y)) (declarations trees tree_forms s at tt) v b q (declarations_are s at x);
+        declares = λ x. when_is (λ v e. declarations_of s at x ≡ after_built (declared_in s v x) (λ t y. ok t e y)) (declarations trees tree_forms s at tt) v b q (declarations_are s at x);
         carried_to = n;
         carries = λ t x. when_is Begun (begun trees tree_forms s b tt) u n h (begun-is b) end.0 end.1 t x;
       })))
 
   text_is : When (λ m n. Agrees s m) (parsed_text s)
-  unfolding wholeText
+  unfolding whole_text
   text_is = when_then (λ m n. Agrees s m) (headed trees tree_forms s 0 tt) _ (λ h at q. headless-is h.0 h.1 at)
 
   -- a text that is of the grammar: stages 3 and 4 from where its declarations and its statements start are those of its tree
@@ -93,7 +93,7 @@ module _ (s : List ℕ) (small : length s ≤ 65535) where
 
   third-is : (m : Module Declarations Statements) → Agrees s m → third s m.declarations m.statements ≡ third_in s m
   unfolding third third_in
-  third-is m a = ap (declared s m.statements) (a.declares (replicate 2588 0, 0)) ∙ go (declaredIn s m.declared (replicate 2588 0, 0))
+  third-is m a = ap (declared s m.statements) (a.declares (replicate 2588 0, 0)) ∙ go (declared_in s m.declared (replicate 2588 0, 0))
     where
       go : (b : Built State (List ℕ)) → declared s m.statements (after_built b (λ t y. ok t a.declared_to y)) ≡ declared_on s m.body b
       go (built t x) = fourth-is m.body m.statements a.carried_to t x (a.carries t x)

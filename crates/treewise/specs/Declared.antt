@@ -49,35 +49,35 @@ elements_in c n t (and_name l st e) x = and_built (elements_in c n t l x) (λ u 
 
 module _ (s : List ℕ) where
   -- whether the name from st to e is among those of a list
-  unfoldable pub standsIn : Names → ℕ → ℕ → Bool
-  standsIn (first_name st' e') st e = same (spelling s st' (e' - st')) (spelling s st (e - st))
-  standsIn (and_name l st' e') st e = standsIn l st e || same (spelling s st' (e' - st')) (spelling s st (e - st))
+  unfoldable pub stands_in : Names → ℕ → ℕ → Bool
+  stands_in (first_name st' e') st e = same (spelling s st' (e' - st')) (spelling s st (e - st))
+  stands_in (and_name l st' e') st e = stands_in l st e || same (spelling s st' (e' - st')) (spelling s st (e - st))
 
   -- a name is new where it is none of the names t and none before it in its list
-  unfoldable pub freshIn : List ℕ → Names → Fresh
-  freshIn t (first_name st e) = pick (is_known (looked_up s t st (e - st))) (old st) new
-  freshIn t (and_name l st e) = also_new (freshIn t l) (pick (is_known (looked_up s t st (e - st)) || standsIn l st e) (old st) new)
+  unfoldable pub fresh_in : List ℕ → Names → Fresh
+  fresh_in t (first_name st e) = pick (is_known (looked_up s t st (e - st))) (old st) new
+  fresh_in t (and_name l st e) = also_new (fresh_in t l) (pick (is_known (looked_up s t st (e - st)) || stands_in l st e) (old st) new)
 
   -- the length of a type, 0 for BIT: 1 to 32, else 5 at its first word
-  unfoldable pub lengthIn : List ℕ → Shape → State → Built State ℤ
-  lengthIn t bit x = built (pos 0) x
-  lengthIn t (array at v) x =
+  unfoldable pub length_in : List ℕ → Shape → State → Built State ℤ
+  length_in t bit x = built (pos 0) x
+  length_in t (array at v) x =
       and_built (eval (reads s t) 1 v x) (λ z y. pick (is_length z) (built z y) (bad 5 (start_of (next_word s at)) y))
 
   -- a list of signals of class c: the names, then the length, then the count
-  unfoldable pub signalsIn : List ℕ → ℕ → Names → Shape → State → Built State (List ℕ)
-  signalsIn t c l y x = unless_old (freshIn t l) x (and_built (lengthIn t y x) (λ z x. elements_in c (upward z) t l x))
+  unfoldable pub signals_in : List ℕ → ℕ → Names → Shape → State → Built State (List ℕ)
+  signals_in t c l y x = unless_old (fresh_in t l) x (and_built (length_in t y x) (λ z x. elements_in c (upward z) t l x))
 
   -- a constant: its name is new, then there are at most 32, then its value
-  unfoldable pub constantIn : List ℕ → ℕ → ℕ → Tree → State → Built State (List ℕ)
-  constantIn t st e w x =
+  unfoldable pub constant_in : List ℕ → ℕ → ℕ → Tree → State → Built State (List ℕ)
+  constant_in t st e w x =
       pick (is_known (looked_up s t st (e - st))) (bad 4 st x)
       (pick (allows x.0 constants_at 32)
       (and_built (eval (reads s t) 1 w (one_more x.0 constants_at 32, x.1)) (λ z y. built (with_constant t st e z) y))
       (bad 6 st x))
 
   -- declarations, each among the names of those before it; class 1 is IN, 2 OUT, 3 VAR, the words 209 to 211
-  unfoldable pub declaredIn : Declarations → State → Built State (List ℕ)
-  declaredIn undeclared x = built [] x
-  declaredIn (constant v st e w) x = and_built (declaredIn v x) (λ t y. constantIn t st e w y)
-  declaredIn (signals v k l y) x = and_built (declaredIn v x) (λ t x. signalsIn t (k - 208) l y x)
+  unfoldable pub declared_in : Declarations → State → Built State (List ℕ)
+  declared_in undeclared x = built [] x
+  declared_in (constant v st e w) x = and_built (declared_in v x) (λ t y. constant_in t st e w y)
+  declared_in (signals v k l y) x = and_built (declared_in v x) (λ t x. signals_in t (k - 208) l y x)

@@ -9,7 +9,7 @@ use Rattle.judging.specs.Reading.{State}
 use Rattle.texts.specs.Stages.{Front, refused, fifth}
 use Rattle.texts.specs.Meaning.{Meaning, circuit_in}
 use Rattle.treewise.specs.Unrolled.{carried}
-use Rattle.treewise.specs.Declared.{declaredIn}
+use Rattle.treewise.specs.Declared.{declared_in}
 
 -- (4) what the statements left is judged over all names
 abbrev pub unrolled_in : Built State (Unit {0}) → Front
@@ -27,7 +27,7 @@ declared_on s u (bad n p x) = refused n p
 
 -- (3) the declarations. Nothing is declared before them: the memory is 2,588 zeros and has no tree node
 unfoldable pub third_in : List ℕ → Module Declarations Statements → Front
-third_in s m = declared_on s m.body (declaredIn s m.declared (replicate 2588 0, 0))
+third_in s m = declared_on s m.body (declared_in s m.declared (replicate 2588 0, 0))
 
 -- (2) a text of the grammar has a tree
 abbrev pub parsed_on : List ℕ → Outcome (Unit {0}) (Module Declarations Statements) → Front

@@ -62,33 +62,33 @@ rounds_in body t p st e (suc n) z x = and_built (counted p (body (with_loop t st
 -- in a text, among the names t
 module _ (s t : List ℕ) where
   -- the element that an assignment is for
-  unfoldable pub targetIn : Tree → Aim
-  targetIn v = aim_on (eval (reads s t) 2 v (0 ∷ [], 0))
+  unfoldable pub target_in : Tree → Aim
+  target_in v = aim_on (eval (reads s t) 2 v (0 ∷ [], 0))
 
   -- what a position is for
-  unfoldable pub siteIn : Tree → Aim
-  siteIn v = on_plain v (λ st e. whole_on st (meaning_of s t st e)) (targetIn v)
+  unfoldable pub site_in : Tree → Aim
+  site_in v = on_plain v (λ st e. whole_on st (meaning_of s t st e)) (target_in v)
 
   -- an assignment: the nodes that the expression adds are the element's equation
   unfoldable pub assigned : Tree → Tree → State → Built State (Unit {0})
   assigned v w x =
-      on_aim (targetIn v) x (λ k n. and_built (eval (reads s t) 2 w x) (λ u y. built tt (assigned_in y.0 k x.1 y.1, y.1)))
+      on_aim (target_in v) x (λ k n. and_built (eval (reads s t) 2 w x) (λ u y. built tt (assigned_in y.0 k x.1 y.1, y.1)))
 
   -- a position with one number: for a BIT or an element, not for an array
   unfoldable pub placed : Tree → Tree → State → Built State (Unit {0})
   placed v w x =
-      on_aim (siteIn v) x (λ k n. and_built (eval (reads s t) 1 w x) (λ z y.
+      on_aim (site_in v) x (λ k n. and_built (eval (reads s t) 1 w x) (λ z y.
       built tt (pick (eqb n 0) (positioned_in y.0 k z) (miscounted_from y.0 k n), y.1)))
 
   -- the numbers of a list
-  unfoldable pub valuesIn : Numbers → State → Built State (List ℤ)
-  valuesIn no_numbers x = built [] x
-  valuesIn (and_number l w) x = and_built (valuesIn l x) (λ zs y. and_built (eval (reads s t) 1 w y) (λ z y. built (zs ++ (z ∷ [])) y))
+  unfoldable pub values_in : Numbers → State → Built State (List ℤ)
+  values_in no_numbers x = built [] x
+  values_in (and_number l w) x = and_built (values_in l x) (λ zs y. and_built (eval (reads s t) 1 w y) (λ z y. built (zs ++ (z ∷ [])) y))
 
   -- a position with a list: for an array that has as many elements
-  unfoldable pub placedAll : Tree → Numbers → State → Built State (Unit {0})
-  placedAll v l x =
-      on_aim (siteIn v) x (λ k n. and_built (valuesIn l x) (λ zs y.
+  unfoldable pub placed_all : Tree → Numbers → State → Built State (Unit {0})
+  placed_all v l x =
+      on_aim (site_in v) x (λ k n. and_built (values_in l x) (λ zs y.
       built tt (pick (eqb (length zs) n) (given_from y.0 k zs) (miscounted_from y.0 k (pick (eqb n 0) 1 n)), y.1)))
 
 -- statements among the names t; the bounds of a FOR are valued before its variable exists
@@ -97,7 +97,7 @@ carried s t nothing x = built tt x
 carried s t (and_statement u v) x = and_built (carried s t u x) (λ w y. carried s t v y)
 carried s t (assign p v w) x = counted p (assigned s t v w) x
 carried s t (place p v w) x = counted p (placed s t v w) x
-carried s t (places p v l) x = counted p (placedAll s t v l) x
+carried s t (places p v l) x = counted p (placed_all s t v l) x
 carried s t (loop p st e a b at u) x =
     and_built (eval (reads s t) 1 a x) (λ lo y. and_built (eval (reads s t) 1 b y) (λ hi z.
     rounds_in (λ r y. carried s r u y) t p st e (rounds_of lo hi) lo z))

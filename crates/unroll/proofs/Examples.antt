@@ -15,8 +15,8 @@ use Rattle.grammar.specs.Modules.{repeat}
 use Rattle.judging.specs.Judging.{meaning_of, mark_of, literal_of, logic_of, plain_of, opened_of, element_of, operator_of}
 use Rattle.judging.specs.Reading.{State, emitted}
 use Rattle.parts.specs.Parts.{raised, noted, allows, one_more, assigned_in}
-use Rattle.simple.specs.Statements.{target_of, assignmentOf, actOf, simpleOf}
-use Rattle.unroll.specs.Loops.{pass_turn, passed_of, upperOf, lowerOf, range_of, headerOf, roundOf, turnsOf, loop_of, forFrom, statementTurn, statementsWith, for_of, statements_of}
+use Rattle.simple.specs.Statements.{target_of, assignment_of, act_of, simple_of}
+use Rattle.unroll.specs.Loops.{pass_turn, passed_of, upper_of, lower_of, range_of, header_of, round_of, turns_of, loop_of, for_from, statement_turn, statements_with, for_of, statements_of}
 
 -- an array v of 8 elements, whose name is the first byte of each text; memory for four nodes
 abbrev pub standing : List ℕ
@@ -44,5 +44,5 @@ pub statements_meant : ◌≡◌ {A = List Seen}
     (ended 7 1 ∷ refused 5 1 ∷ refused 5 0
     ∷ ended 39 4 ∷ refused 4 37
     ∷ ended 32 1 ∷ [])
-unfolding is_blank is_letter is_digit is_single is_pair turn_of gap end_of prefixed of_two of_three of_four of_five of_six keyword_of wnamed name_at value_of number_at pair_kind pair_at logic_at form_at word_at next_word fitted divided left_over powered combined rounds_of spelling same_bytes same find entry entries looked_up extended number_of index_sort part_sort closed turn chain level dotted pointed part bracketed named factor term expression nested repeat meaning_of mark_of literal_of logic_of plain_of opened_of element_of operator_of emitted raised noted allows one_more assigned_in target_of assignmentOf actOf simpleOf pass_turn passed_of upperOf lowerOf range_of headerOf roundOf turnsOf loop_of forFrom statementTurn statementsWith for_of
+unfolding is_blank is_letter is_digit is_single is_pair turn_of gap end_of prefixed of_two of_three of_four of_five of_six keyword_of wnamed name_at value_of number_at pair_kind pair_at logic_at form_at word_at next_word fitted divided left_over powered combined rounds_of spelling same_bytes same find entry entries looked_up extended number_of index_sort part_sort closed turn chain level dotted pointed part bracketed named factor term expression nested repeat meaning_of mark_of literal_of logic_of plain_of opened_of element_of operator_of emitted raised noted allows one_more assigned_in target_of assignment_of act_of simple_of pass_turn passed_of upper_of lower_of range_of header_of round_of turns_of loop_of for_from statement_turn statements_with for_of
 statements_meant = refl

@@ -19,12 +19,12 @@ use Rattle.grammar.specs.Modules.{repeat}
 use Rattle.grammar.proofs.Chain.{Near, PastT, other}
 use Rattle.grammar.proofs.Turns.{near_then, near_pick, turn_pick, near_word, turn_word, near_closed, repeat_more, repeat_last, repeat_falls, near_repeat}
 use Rattle.judging.specs.Reading.{State}
-use Rattle.readers.specs.Readers.{expressionOf}
+use Rattle.readers.specs.Readers.{expression_of}
 use Rattle.parts.specs.Parts.{used_at, allows, one_more}
 use Rattle.parts.proofs.Runs.{none_more}
-use Rattle.simple.specs.Statements.{simpleOf}
+use Rattle.simple.specs.Statements.{simple_of}
 use Rattle.simple.proofs.Laws.{near_expression, near_simple}
-use Rattle.unroll.specs.Loops.{with_loop, pass_turn, passed_of, Range, upperOf, lowerOf, range_of, headerOf, roundOf, turnsOf, closedBy, loop_of, forFrom, again, statementTurn, statementsWith, for_of, statements_of}
+use Rattle.unroll.specs.Loops.{with_loop, pass_turn, passed_of, Range, upper_of, lower_of, range_of, header_of, round_of, turns_of, closed_by, loop_of, for_from, again, statement_turn, statements_with, for_of, statements_of}
 
 -- ---- passing over a body
 
@@ -60,27 +60,27 @@ module _ (s : List ℕ) where
 -- ---- what stands before a body
 
 module _ (s t : List ℕ) (d : ℕ) where
-  near-upper : (st e : ℕ) (a : ℤ) (from at : ℕ) (x : State) → from ≤ at → Near from (upperOf s t d st e a at x)
-  unfolding upperOf
+  near-upper : (st e : ℕ) (a : ℤ) (from at : ℕ) (x : State) → from ≤ at → Near from (upper_of s t d st e a at x)
+  unfolding upper_of
   near-upper st e a from at x l =
-      near_then from (expressionOf s t d 1 at x) _ (near_expression s t d 1 from at x l) (λ b at y l.
+      near_then from (expression_of s t d 1 at x) _ (near_expression s t d 1 from at x l) (λ b at y l.
       near_then from (closed s 201 b at y) _ (near_closed s 201 (λ z. omega arith) b from at y l) (λ b q y l. l))
 
-  near-lower : (st e from at : ℕ) (x : State) → from ≤ at → Near from (lowerOf s t d st e at x)
-  unfolding lowerOf
+  near-lower : (st e from at : ℕ) (x : State) → from ≤ at → Near from (lower_of s t d st e at x)
+  unfolding lower_of
   near-lower st e from at x l =
-      near_then from (expressionOf s t d 1 at x) _ (near_expression s t d 1 from at x l) (λ a at y l.
+      near_then from (expression_of s t d 1 at x) _ (near_expression s t d 1 from at x l) (λ a at y l.
       near_then from (closed s 174 a at y) _ (near_closed s 174 (λ z. omega arith) a from at y l) (λ a at y l. near-upper st e a from at y l))
 
   near-range : (st e from : ℕ) (x : State) → from ≤ e → Near from (range_of s t d st e x)
   unfolding range_of
   near-range st e from x l =
       near_word s from e x _ l (λ k q v nx w.
-      near_pick from (eqb k 189) (lowerOf s t d st e nx x) (no 2 q x)
+      near_pick from (eqb k 189) (lower_of s t d st e nx x) (no 2 q x)
       (λ b. let h : (from < nx) × (from < length s) = w (other k 189 (λ z. omega arith) b) in near-lower st e from nx x (omega arith)) (λ b. tt))
 
-  near-header : (from at : ℕ) (x : State) → from ≤ at → Near from (headerOf s t d at x)
-  unfolding headerOf
+  near-header : (from at : ℕ) (x : State) → from ≤ at → Near from (header_of s t d at x)
+  unfolding header_of
   near-header from at x l =
       near_word s from at x _ l (λ k st v nx w.
       near_pick from (eqb k 1) (range_of s t d st nx x) (no 2 st x)
@@ -89,17 +89,17 @@ module _ (s t : List ℕ) (d : ℕ) where
 -- ---- rounds
 
 module _ (s t : List ℕ) (body : List ℕ → ℕ → State → Outcome State ℤ) where
-  near_on : (p st e q r n : ℕ) (z : ℤ) (from : ℕ) (o : Outcome State ℤ) → ((y : State) → Near from (turnsOf s t body p st e q r n z y))
-      → Near from (and_then o (λ v at y. turnsOf s t body p st e q r n z y))
+  near_on : (p st e q r n : ℕ) (z : ℤ) (from : ℕ) (o : Outcome State ℤ) → ((y : State) → Near from (turns_of s t body p st e q r n z y))
+      → Near from (and_then o (λ v at y. turns_of s t body p st e q r n z y))
   near_on p st e q r n z from (ok v at y) ih = ih y
   near_on p st e q r n z from (no k w y) ih = tt
 
-  near-turns : (p st e q r n : ℕ) (z : ℤ) (x : State) (from : ℕ) → from ≤ r → Near from (turnsOf s t body p st e q r n z x)
-  unfolding turnsOf
+  near-turns : (p st e q r n : ℕ) (z : ℤ) (x : State) (from : ℕ) → from ≤ r → Near from (turns_of s t body p st e q r n z x)
+  unfolding turns_of
   near-turns p st e q r zero z x from l = l
-  near-turns p st e q r (suc n) z x from l = near_on p st e q r n (nextℤ z) from (roundOf s t body p st e q z x) (λ y. near-turns p st e q r n (nextℤ z) y from l)
+  near-turns p st e q r (suc n) z x from l = near_on p st e q r n (nextℤ z) from (round_of s t body p st e q z x) (λ y. near-turns p st e q r n (nextℤ z) y from l)
 
-  near_by : (p st e : ℕ) (a b : ℤ) (q : ℕ) (x : State) (from : ℕ) (o : Outcome (Unit {0}) ℕ) → Near from o → Near from (closedBy s t body p st e a b q x o)
+  near_by : (p st e : ℕ) (a b : ℤ) (q : ℕ) (x : State) (from : ℕ) (o : Outcome (Unit {0}) ℕ) → Near from o → Near from (closed_by s t body p st e a b q x o)
   near_by p st e a b q x from (ok l r u) h = near-turns p st e q r (rounds_of a b) a x from h
   near_by p st e a b q x from (no n w u) h = tt
 
@@ -107,31 +107,31 @@ module _ (s t : List ℕ) (body : List ℕ → ℕ → State → Outcome State �
   unfolding loop_of
   near-loop p st e a b q x from l = near_by p st e a b q x from (passed_of s q) (near-passed s from q l)
 
-  near-for-from : (d p from at : ℕ) (x : State) → from ≤ at → Near from (forFrom s t body d p at x)
-  unfolding forFrom
+  near-for-from : (d p from at : ℕ) (x : State) → from ≤ at → Near from (for_from s t body d p at x)
+  unfolding for_from
   near-for-from d p from at x l =
-      near_then from (headerOf s t d at x) _ (near-header s t d from at x l) (λ h q y l. near-loop p h.first h.past h.low h.high q y from l)
+      near_then from (header_of s t d at x) _ (near-header s t d from at x l) (λ h q y l. near-loop p h.first h.past h.low h.high q y from l)
 
   module _ (p st e q r n : ℕ) (z : ℤ) (x : State) where
     some_left : 0 < n → n ≡ suc (n - 1)
     some_left h = omega arith
 
-    pub turns_more : (v : ℤ) (at : ℕ) (y : State) → 0 < n → roundOf s t body p st e q z x ≡ ok v at y
-        → turnsOf s t body p st e q r n z x ≡ turnsOf s t body p st e q r (n - 1) (nextℤ z) y
-    unfolding turnsOf
+    pub turns_more : (v : ℤ) (at : ℕ) (y : State) → 0 < n → round_of s t body p st e q z x ≡ ok v at y
+        → turns_of s t body p st e q r n z x ≡ turns_of s t body p st e q r (n - 1) (nextℤ z) y
+    unfolding turns_of
     turns_more v at y h o =
-        ap (λ (m : ℕ). turnsOf s t body p st e q r m z x) (some_left h)
-        ∙ ap (λ (o : Outcome State ℤ). and_then o (λ v at y. turnsOf s t body p st e q r (n - 1) (nextℤ z) y)) o
+        ap (λ (m : ℕ). turns_of s t body p st e q r m z x) (some_left h)
+        ∙ ap (λ (o : Outcome State ℤ). and_then o (λ v at y. turns_of s t body p st e q r (n - 1) (nextℤ z) y)) o
 
-    pub turns_halt : (k w : ℕ) (y : State) → 0 < n → roundOf s t body p st e q z x ≡ no k w y → turnsOf s t body p st e q r n z x ≡ no k w y
-    unfolding turnsOf
+    pub turns_halt : (k w : ℕ) (y : State) → 0 < n → round_of s t body p st e q z x ≡ no k w y → turns_of s t body p st e q r n z x ≡ no k w y
+    unfolding turns_of
     turns_halt k w y h o =
-        ap (λ (m : ℕ). turnsOf s t body p st e q r m z x) (some_left h)
-        ∙ ap (λ (o : Outcome State ℤ). and_then o (λ v at y. turnsOf s t body p st e q r (n - 1) (nextℤ z) y)) o
+        ap (λ (m : ℕ). turns_of s t body p st e q r m z x) (some_left h)
+        ∙ ap (λ (o : Outcome State ℤ). and_then o (λ v at y. turns_of s t body p st e q r (n - 1) (nextℤ z) y)) o
 
-    pub turns_done : n ≤ 0 → turnsOf s t body p st e q r n z x ≡ ok (pos 0) r x
-    unfolding turnsOf
-    turns_done h = let e₀ : n ≡ 0 = omega arith in ap (λ (m : ℕ). turnsOf s t body p st e q r m z x) e₀
+    pub turns_done : n ≤ 0 → turns_of s t body p st e q r n z x ≡ ok (pos 0) r x
+    unfolding turns_of
+    turns_done h = let e₀ : n ≡ 0 = omega arith in ap (λ (m : ℕ). turns_of s t body p st e q r m z x) e₀
 
 -- ---- statements
 
@@ -141,30 +141,30 @@ module _ (s t : List ℕ) (d : ℕ) (loops : ℕ → ℕ → State → Outcome S
   again-far at (ok v n y) r h = omega arith
   again-far at (no k p y) r h = tt
 
-  far : (v : ℤ) (at : ℕ) (x : State) → PastT (length s) at (statementTurn s t d loops v at x)
-  unfolding statementTurn
+  far : (v : ℤ) (at : ℕ) (x : State) → PastT (length s) at (statement_turn s t d loops v at x)
+  unfolding statement_turn
   far v at x =
       let n = length s in
       turn_word s at at x _ (omega arith) (λ k st v' nx w.
-      turn_pick n at (eqb k 1) (again s t d loops (simpleOf s t d st nx x)) _
+      turn_pick n at (eqb k 1) (again s t d loops (simple_of s t d st nx x)) _
       (λ b. let h : (at < nx) × (at < n) = w (other k 1 (λ z. omega arith) b) in
-      again-far at (simpleOf s t d st nx x) h.1 (near_simple s t d st nx at x h.0 h.1)) (λ b.
+      again-far at (simple_of s t d st nx x) h.1 (near_simple s t d st nx at x h.0 h.1)) (λ b.
       turn_pick n at (eqb k 200) (again s t d loops (loops st nx x)) _
       (λ b. let h : (at < nx) × (at < n) = w (other k 200 (λ z. omega arith) b) in
       again-far at (loops st nx x) h.1 (near-loops st (at + 1) nx x (omega arith))) (λ b.
       turn_pick n at (eqb k 59) (more (pos 0) nx x) (last (ok (pos 0) at x))
       (λ b. w (other k 59 (λ z. omega arith) b)) (λ b. omega arith))))
 
-  pub near_statements : (from at : ℕ) (x : State) → from ≤ at → Near from (statementsWith s t d loops at x)
-  unfolding statementsWith
-  near_statements from at x l = near_repeat s (statementTurn s t d loops) far (suc (length s)) (pos 0) from at x l
+  pub near_statements : (from at : ℕ) (x : State) → from ≤ at → Near from (statements_with s t d loops at x)
+  unfolding statements_with
+  near_statements from at x l = near_repeat s (statement_turn s t d loops) far (suc (length s)) (pos 0) from at x l
 
 -- behind a FOR, with levels left: one fewer within it
 pub for_none : (s : List ℕ) (d : ℕ) (t : List ℕ) (p at : ℕ) (x : State) → d ≡ 0 → for_of s d t p at x ≡ no 6 p x
 unfolding for_of
 for_none s d t p at x z = ap (λ (e : ℕ). for_of s e t p at x) z
 
-pub for_some : (s : List ℕ) (d : ℕ) (t : List ℕ) (p at : ℕ) (x : State) → (d ≡ 0 → ⊥) → for_of s d t p at x ≡ forFrom s t (statements_of s (d - 1)) (d - 1) p at x
+pub for_some : (s : List ℕ) (d : ℕ) (t : List ℕ) (p at : ℕ) (x : State) → (d ≡ 0 → ⊥) → for_of s d t p at x ≡ for_from s t (statements_of s (d - 1)) (d - 1) p at x
 unfolding for_of
 for_some s zero t p at x nz = absurd (nz refl)
 for_some s (suc d) t p at x nz = rw sub-one refl
@@ -172,7 +172,7 @@ for_some s (suc d) t p at x nz = rw sub-one refl
 near_for : (s : List ℕ) (d : ℕ) (t : List ℕ) (p from at : ℕ) (x : State) → from ≤ at → Near from (for_of s d t p at x)
 unfolding for_of
 near_for s zero t p from at x l = tt
-near_for s (suc d) t p from at x l = near-for-from s t (λ u q y. statementsWith s u d (for_of s d u) q y) d p from at x l
+near_for s (suc d) t p from at x l = near-for-from s t (λ u q y. statements_with s u d (for_of s d u) q y) d p from at x l
 
 module _ (s t : List ℕ) (d : ℕ) where
   -- the statements from a turn on
@@ -180,21 +180,21 @@ module _ (s t : List ℕ) (d : ℕ) where
   rest at x = statements_of s d t at x
 
   -- the value that a turn hands on is not looked at
-  any_value : (v w : ℤ) (n at : ℕ) (x : State) → repeat (statementTurn s t d (for_of s d t)) (suc n) v at x ≡ repeat (statementTurn s t d (for_of s d t)) (suc n) w at x
-  unfolding repeat statementTurn
+  any_value : (v w : ℤ) (n at : ℕ) (x : State) → repeat (statement_turn s t d (for_of s d t)) (suc n) v at x ≡ repeat (statement_turn s t d (for_of s d t)) (suc n) w at x
+  unfolding repeat statement_turn
   any_value v w n at x = refl
 
-  pub statements_more : (w : ℤ) (at e : ℕ) (x y : State) → statementTurn s t d (for_of s d t) (pos 0) at x ≡ more w e y → rest at x ≡ rest e y
-  unfolding statementsWith
+  pub statements_more : (w : ℤ) (at e : ℕ) (x y : State) → statement_turn s t d (for_of s d t) (pos 0) at x ≡ more w e y → rest at x ≡ rest e y
+  unfolding statements_with
   statements_more w at e x y q =
-      repeat_more s (statementTurn s t d (for_of s d t)) (far s t d (for_of s d t) (near_for s d t)) (pos 0) w at e x y q ∙ any_value w (pos 0) (length s) e y
+      repeat_more s (statement_turn s t d (for_of s d t)) (far s t d (for_of s d t) (near_for s d t)) (pos 0) w at e x y q ∙ any_value w (pos 0) (length s) e y
 
-  pub statements_last : (at : ℕ) (x : State) (r : Outcome State ℤ) → statementTurn s t d (for_of s d t) (pos 0) at x ≡ last r → rest at x ≡ r
-  unfolding statementsWith
-  statements_last at x r q = repeat_last s (statementTurn s t d (for_of s d t)) (far s t d (for_of s d t) (near_for s d t)) (pos 0) at x r q
+  pub statements_last : (at : ℕ) (x : State) (r : Outcome State ℤ) → statement_turn s t d (for_of s d t) (pos 0) at x ≡ last r → rest at x ≡ r
+  unfolding statements_with
+  statements_last at x r q = repeat_last s (statement_turn s t d (for_of s d t)) (far s t d (for_of s d t) (near_for s d t)) (pos 0) at x r q
 
-  pub statements_falls : (w : ℤ) (at e : ℕ) (x y : State) → statementTurn s t d (for_of s d t) (pos 0) at x ≡ more w e y → length s - e < length s - at
-  statements_falls w at e x y q = repeat_falls s (statementTurn s t d (for_of s d t)) (far s t d (for_of s d t) (near_for s d t)) (pos 0) w at e x y q
+  pub statements_falls : (w : ℤ) (at e : ℕ) (x y : State) → statement_turn s t d (for_of s d t) (pos 0) at x ≡ more w e y → length s - e < length s - at
+  statements_falls w at e x y q = repeat_falls s (statement_turn s t d (for_of s d t)) (far s t d (for_of s d t) (near_for s d t)) (pos 0) w at e x y q
 
 -- the names of a table, as they are lent
 pub lent_whole : (l u : List ℕ) (n : ℕ) → length l ≡ 640 → n ≤ 640 → drop n l ≡ u → take (640 - n) (drop n l) ≡ u
@@ -204,35 +204,35 @@ lent_whole l u n e h q = take_all (640 - n) (drop n l) (simp length-drop (omega 
 
 module _ (s t : List ℕ) (body : List ℕ → ℕ → State → Outcome State ℤ) (p st e q : ℕ) (z : ℤ) (x : State) (l : List ℕ) (b : Bool)
     (told : b ≡ allows x.0 used_at 4096) (counted : l ≡ one_more x.0 used_at 4096) where
-  pub round_goes : (u : List ℕ) (r : Outcome State ℤ) → b ≡ true → u ≡ with_loop t st e z → r ≡ body u q (l, x.1) → r ≡ roundOf s t body p st e q z x
-  unfolding roundOf
+  pub round_goes : (u : List ℕ) (r : Outcome State ℤ) → b ≡ true → u ≡ with_loop t st e z → r ≡ body u q (l, x.1) → r ≡ round_of s t body p st e q z x
+  unfolding round_of
   round_goes u r h m o =
       o ∙ ap₂ (λ (u l : List ℕ). body u q (l, x.1)) m counted
       ∙ sym (ap (λ (c : Bool). pick c (body (with_loop t st e z) q (one_more x.0 used_at 4096, x.1)) (no 6 p x)) (sym told ∙ h))
 
-  pub round_none : b ≡ false → no 6 p (l, x.1) ≡ roundOf s t body p st e q z x
-  unfolding roundOf
+  pub round_none : b ≡ false → no 6 p (l, x.1) ≡ round_of s t body p st e q z x
+  unfolding round_of
   round_none h =
       ap (λ (l : List ℕ). no 6 p (l, x.1)) (counted ∙ none_more x.0 used_at 4096 (sym told ∙ h))
       ∙ sym (ap (λ (c : Bool). pick c (body (with_loop t st e z) q (one_more x.0 used_at 4096, x.1)) (no 6 p x)) (sym told ∙ h))
 
 module _ (s t : List ℕ) (d p at : ℕ) (x : State) (nz : d ≡ 0 → ⊥) where
-  pub for_goes : (h : Range) (q : ℕ) (y : State) (r : Outcome State ℤ) → ok h q y ≡ headerOf s t (d - 1) at x
+  pub for_goes : (h : Range) (q : ℕ) (y : State) (r : Outcome State ℤ) → ok h q y ≡ header_of s t (d - 1) at x
       → r ≡ loop_of s t (statements_of s (d - 1)) p h.first h.past h.low h.high q y → r ≡ for_of s d t p at x
-  unfolding forFrom
+  unfolding for_from
   for_goes h q y r m o =
       o ∙ sym (for_some s d t p at x nz
       ∙ sym (ap (λ (o : Outcome State Range). and_then o (λ h q y. loop_of s t (statements_of s (d - 1)) p h.first h.past h.low h.high q y)) m))
 
-  pub for_halts : (n w : ℕ) (y : State) → no n w y ≡ headerOf s t (d - 1) at x → no n w y ≡ for_of s d t p at x
-  unfolding forFrom
+  pub for_halts : (n w : ℕ) (y : State) → no n w y ≡ header_of s t (d - 1) at x → no n w y ≡ for_of s d t p at x
+  unfolding for_from
   for_halts n w y m =
       sym (for_some s d t p at x nz
       ∙ sym (ap (λ (o : Outcome State Range). and_then o (λ h q y. loop_of s t (statements_of s (d - 1)) p h.first h.past h.low h.high q y)) m))
 
 -- one round more: what is left then
 module _ (s t : List ℕ) (body : List ℕ → ℕ → State → Outcome State ℤ) (p st e q r n : ℕ) (z w : ℤ) (x : State) where
-  pub turns_step : {v : ℤ} {at : ℕ} {y : State} → 0 < n → ok v at y ≡ roundOf s t body p st e q z x → w ≡ nextℤ z
-      → turnsOf s t body p st e q r (n - 1) w y ≡ turnsOf s t body p st e q r n z x
+  pub turns_step : {v : ℤ} {at : ℕ} {y : State} → 0 < n → ok v at y ≡ round_of s t body p st e q z x → w ≡ nextℤ z
+      → turns_of s t body p st e q r (n - 1) w y ≡ turns_of s t body p st e q r n z x
   turns_step {v} {at} {y} h o m =
-      ap (λ (w : ℤ). turnsOf s t body p st e q r (n - 1) w y) m ∙ sym (turns_more s t body p st e q r n z x v at y h (sym o))
+      ap (λ (w : ℤ). turns_of s t body p st e q r (n - 1) w y) m ∙ sym (turns_more s t body p st e q r n z x v at y h (sym o))

@@ -9,9 +9,9 @@ use Rattle.grammar.specs.Outcome.{Outcome, ok, no, Turn, more, last, on_word, an
 use Rattle.grammar.specs.Grammar.{closed}
 use Rattle.grammar.specs.Modules.{then_turn, word_turn, repeat}
 use Rattle.judging.specs.Reading.{State}
-use Rattle.readers.specs.Readers.{expressionOf}
+use Rattle.readers.specs.Readers.{expression_of}
 use Rattle.parts.specs.Parts.{used_at, allows, one_more}
-use Rattle.simple.specs.Statements.{simpleOf}
+use Rattle.simple.specs.Statements.{simple_of}
 use Rattle.unroll.specs.declared.Pass.{Pass}
 use Rattle.unroll.specs.declared.Pass.TheVariants.{Deeper, Ended, Off}
 use Rattle.unroll.specs.declared.Over.{Over}
@@ -63,43 +63,43 @@ seen_header (Bad k p n) room = no k p (room, n)
 -- what stands before the body of a FOR, with d levels left: the bounds are valued before the variable exists
 module _ (s t : List ℕ) (d : ℕ) where
   -- behind `..`: the upper bound and DO
-  unfoldable pub upperOf : ℕ → ℕ → ℤ → ℕ → State → Outcome State Range
-  upperOf st e a at x = and_then (expressionOf s t d 1 at x) (λ b at y. and_then (closed s 201 b at y) (λ b q y. ok (range st e a b) q y))
+  unfoldable pub upper_of : ℕ → ℕ → ℤ → ℕ → State → Outcome State Range
+  upper_of st e a at x = and_then (expression_of s t d 1 at x) (λ b at y. and_then (closed s 201 b at y) (λ b q y. ok (range st e a b) q y))
 
   -- behind `:=`: the lower bound and `..`
-  unfoldable pub lowerOf : ℕ → ℕ → ℕ → State → Outcome State Range
-  lowerOf st e at x = and_then (expressionOf s t d 1 at x) (λ a at y. and_then (closed s 174 a at y) (upperOf st e))
+  unfoldable pub lower_of : ℕ → ℕ → ℕ → State → Outcome State Range
+  lower_of st e at x = and_then (expression_of s t d 1 at x) (λ a at y. and_then (closed s 174 a at y) (upper_of st e))
 
   -- behind the name
   unfoldable pub range_of : ℕ → ℕ → State → Outcome State Range
-  range_of st e x = on_word x (next_word s e) (λ k q v nx. pick (eqb k 189) (lowerOf st e nx x) (no 2 q x))
+  range_of st e x = on_word x (next_word s e) (λ k q v nx. pick (eqb k 189) (lower_of st e nx x) (no 2 q x))
 
   -- behind FOR
-  unfoldable pub headerOf : ℕ → State → Outcome State Range
-  headerOf at x = on_word x (next_word s at) (λ k st v nx. pick (eqb k 1) (range_of st nx x) (no 2 st x))
+  unfoldable pub header_of : ℕ → State → Outcome State Range
+  header_of at x = on_word x (next_word s at) (λ k st v nx. pick (eqb k 1) (range_of st nx x) (no 2 st x))
 
 -- `body t at` carries out the statements at a place among the names t
 module _ (s t : List ℕ) (body : List ℕ → ℕ → State → Outcome State ℤ) where
   -- one round of the FOR at p, over the name from st to e with its body at q: it is counted first, at its FOR
-  unfoldable pub roundOf : ℕ → ℕ → ℕ → ℕ → ℤ → State → Outcome State ℤ
-  roundOf p st e q z x = pick (allows x.0 used_at 4096) (body (with_loop t st e z) q (one_more x.0 used_at 4096, x.1)) (no 6 p x)
+  unfoldable pub round_of : ℕ → ℕ → ℕ → ℕ → ℤ → State → Outcome State ℤ
+  round_of p st e q z x = pick (allows x.0 used_at 4096) (body (with_loop t st e z) q (one_more x.0 used_at 4096, x.1)) (no 6 p x)
 
   -- n rounds from z on; r is the place past END
-  unfoldable pub turnsOf : ℕ → ℕ → ℕ → ℕ → ℕ → ℕ → ℤ → State → Outcome State ℤ
-  turnsOf p st e q r zero z x = ok (pos 0) r x
-  turnsOf p st e q r (suc n) z x = and_then (roundOf p st e q z x) (λ v at y. turnsOf p st e q r n (nextℤ z) y)
+  unfoldable pub turns_of : ℕ → ℕ → ℕ → ℕ → ℕ → ℕ → ℤ → State → Outcome State ℤ
+  turns_of p st e q r zero z x = ok (pos 0) r x
+  turns_of p st e q r (suc n) z x = and_then (round_of p st e q z x) (λ v at y. turns_of p st e q r n (nextℤ z) y)
 
   -- behind DO: no round if the lower bound is above the upper
-  abbrev pub closedBy : ℕ → ℕ → ℕ → ℤ → ℤ → ℕ → State → Outcome (Unit {0}) ℕ → Outcome State ℤ
-  closedBy p st e a b q x (ok l r u) = turnsOf p st e q r (rounds_of a b) a x
-  closedBy p st e a b q x (no n w u) = no n w x
+  abbrev pub closed_by : ℕ → ℕ → ℕ → ℤ → ℤ → ℕ → State → Outcome (Unit {0}) ℕ → Outcome State ℤ
+  closed_by p st e a b q x (ok l r u) = turns_of p st e q r (rounds_of a b) a x
+  closed_by p st e a b q x (no n w u) = no n w x
 
   unfoldable pub loop_of : ℕ → ℕ → ℕ → ℤ → ℤ → ℕ → State → Outcome State ℤ
-  loop_of p st e a b q x = closedBy p st e a b q x (passed_of s q)
+  loop_of p st e a b q x = closed_by p st e a b q x (passed_of s q)
 
   -- behind the FOR at p
-  unfoldable pub forFrom : ℕ → ℕ → ℕ → State → Outcome State ℤ
-  forFrom d p at x = and_then (headerOf s t d at x) (λ h q y. loop_of p h.first h.past h.low h.high q y)
+  unfoldable pub for_from : ℕ → ℕ → ℕ → State → Outcome State ℤ
+  for_from d p at x = and_then (header_of s t d at x) (λ h q y. loop_of p h.first h.past h.low h.high q y)
 
 -- `loops p` carries out what stands behind the FOR at p
 module _ (s t : List ℕ) (d : ℕ) (loops : ℕ → ℕ → State → Outcome State ℤ) where
@@ -107,22 +107,22 @@ module _ (s t : List ℕ) (d : ℕ) (loops : ℕ → ℕ → State → Outcome S
   again o = then_turn o (λ v e y. more (pos 0) e y)
 
   -- a statement, possibly empty; a word that begins none ends them
-  unfoldable pub statementTurn : ℤ → ℕ → State → Turn State ℤ
-  statementTurn v at x =
+  unfoldable pub statement_turn : ℤ → ℕ → State → Turn State ℤ
+  statement_turn v at x =
       word_turn x (next_word s at) (λ k st v' nx.
-      pick (eqb k 1) (again (simpleOf s t d st nx x))
+      pick (eqb k 1) (again (simple_of s t d st nx x))
       (pick (eqb k 200) (again (loops st nx x))
       (pick (eqb k 59) (more (pos 0) nx x)
       (last (ok (pos 0) at x)))))
 
-  unfoldable pub statementsWith : ℕ → State → Outcome State ℤ
-  statementsWith at x = repeat statementTurn (suc (length s)) (pos 0) at x
+  unfoldable pub statements_with : ℕ → State → Outcome State ℤ
+  statements_with at x = repeat statement_turn (suc (length s)) (pos 0) at x
 
 -- behind the FOR at p with d levels left: it takes one, from its word to its END, its bounds included
 unfoldable pub for_of : List ℕ → ℕ → List ℕ → ℕ → ℕ → State → Outcome State ℤ
 for_of s zero t p at x = no 6 p x
-for_of s (suc d) t p at x = forFrom s t (λ u q y. statementsWith s u d (for_of s d u) q y) d p at x
+for_of s (suc d) t p at x = for_from s t (λ u q y. statements_with s u d (for_of s d u) q y) d p at x
 
 -- the statements at a place, among the names t, with d levels left
 abbrev pub statements_of : List ℕ → ℕ → List ℕ → ℕ → State → Outcome State ℤ
-statements_of s d t at x = statementsWith s t d (for_of s d t) at x
+statements_of s d t at x = statements_with s t d (for_of s d t) at x

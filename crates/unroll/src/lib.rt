@@ -5,7 +5,7 @@ ghost use Rattle.std.specs.Prelude.{◌≡◌, ◌≤◌, pos};
 ghost use Rattle.integers.specs.Integers.{num};
 ghost use Rattle.names.specs.Names.{held};
 ghost use Rattle.judging.specs.Reading.{seen, seen_step};
-ghost use Rattle.unroll.specs.Loops.{with_loop, pass_turn, passed_of, seen_pass, seen_over, seen_header, upperOf, lowerOf, range_of, headerOf, roundOf, turnsOf, loop_of, statementTurn, for_of, statements_of};
+ghost use Rattle.unroll.specs.Loops.{with_loop, pass_turn, passed_of, seen_pass, seen_over, seen_header, upper_of, lower_of, range_of, header_of, round_of, turns_of, loop_of, statement_turn, for_of, statements_of};
 
 use integers::Num;
 use judging::{Read, Step};
@@ -126,7 +126,7 @@ fn upper(
     from: Cursor,
     depth: usize,
 ) -> Header
-    ensures { seen_header result room.new ≡ upperOf text.now names.now depth start end (num low) from.at (room.old, count) }
+    ensures { seen_header result room.new ≡ upper_of text.now names.now depth start end (num low) from.at (room.old, count) }
 {
     match readers::expression(text, names, room, count, 1, from, depth) {
         Read::Value {
@@ -185,7 +185,7 @@ fn lower(
     from: Cursor,
     depth: usize,
 ) -> Header
-    ensures { seen_header result room.new ≡ lowerOf text.now names.now depth start end from.at (room.old, count) }
+    ensures { seen_header result room.new ≡ lower_of text.now names.now depth start end from.at (room.old, count) }
 {
     match readers::expression(text, names, room, count, 1, from, depth) {
         Read::Value {
@@ -271,7 +271,7 @@ fn read_header(
     from: Cursor,
     depth: usize,
 ) -> Header
-    ensures { seen_header result room.new ≡ headerOf text.now names.now depth from.at (room.old, count) }
+    ensures { seen_header result room.new ≡ header_of text.now names.now depth from.at (room.old, count) }
 {
     match from.next(text) {
         Taken::Word {
@@ -311,7 +311,7 @@ fn round(
     value: Num,
     depth: usize,
 ) -> Read
-    ensures { seen result room.new ≡ roundOf text.now names.now (statements_of text.now depth) place start end body.at (num value) (room.old, count) }
+    ensures { seen result room.new ≡ round_of text.now names.now (statements_of text.now depth) place start end body.at (num value) (room.old, count) }
 {
     if parts::one_more(room, 2585, 4096) {
         let table = with_loop(names, start, end, value);
@@ -342,7 +342,7 @@ fn turns(
     times: u64,
     depth: usize,
 ) -> Read
-    ensures { seen result room.new ≡ turnsOf text.now names.now (statements_of text.now depth) place start end body.at over.at times (num value) (room.old, count) }
+    ensures { seen result room.new ≡ turns_of text.now names.now (statements_of text.now depth) place start end body.at over.at times (num value) (room.old, count) }
 {
     let mut left = times;
     let mut z = value;
@@ -481,7 +481,7 @@ fn statement_turn(
     from: Cursor,
     depth: usize,
 ) -> Step
-    ensures { seen_step result room.new ≡ statementTurn text.now names.now depth (for_of text.now depth names.now) (pos 0) from.at (room.old, count) }
+    ensures { seen_step result room.new ≡ statement_turn text.now names.now depth (for_of text.now depth names.now) (pos 0) from.at (room.old, count) }
 {
     match from.next(text) {
         Taken::Word {

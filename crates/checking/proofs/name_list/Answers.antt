@@ -1,6 +1,6 @@
 use mathlib.Core.Path.{sym, ap, ◌∙◌}
 use Rattle.phrases.specs.Seen.{seen_go}
-use Rattle.checking.proofs.Sections.{name_falls, name_more, name_last, name_list as first}
+use Rattle.checking.proofs.Sections.{name_falls, name_more, name_last, name_list_lem as first}
 use Rattle.checking.proofs.name_list.Goals as goal
 
 pub loop-next-smaller : goal.loop-next-smaller

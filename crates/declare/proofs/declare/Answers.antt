@@ -2,17 +2,17 @@ use native.Mathlib.Omega.{arith}
 use mathlib.Core.Path.{refl, ap, ◌∙◌}
 use mathlib.Core.List.{List}
 use Prim.Native.Nat.{ℕ}
-use Rattle.declare.specs.Declarations.{sectionsOf, declarationsOf}
+use Rattle.declare.specs.Declarations.{sections_of, declarations_of}
 use Rattle.declare.proofs.Laws.{sections_more, sections_stop, sections_done}
 use Rattle.declare.proofs.declare.Goals as goal
 
 pub loop-class-init : goal.loop-class-init
-unfolding declarationsOf
+unfolding declarations_of
 loop-class-init c = (
   omega (arith, c.none-names.ensures.0),
   refl,
   omega arith,
-  ap (λ (t : List ℕ). sectionsOf c.args.text.now 4 0 t c.args.from.at (c.args.room.now, c.args.count)) c.none-names.ensures.1,
+  ap (λ (t : List ℕ). sections_of c.args.text.now 4 0 t c.args.from.at (c.args.room.now, c.args.count)) c.none-names.ensures.1,
 )
 
 pub shape_of-room-then-made-eq0 : goal.shape_of-room-then-made-eq0

@@ -1,7 +1,7 @@
 -- `galmodel::model` meets its contract.
 use mathlib.Core.Path.{sym, ◌∙◌}
 use Rattle.gal.specs.Model.{modelled}
-use Rattle.galmodel.proofs.Answers.{sized, answer-is}
+use Rattle.galmodel.proofs.Answers.{sized, answer_is}
 use Rattle.galmodel.proofs.model.Goals as goal
 
 pub returns-then-no_map : goal.returns-then-no_map
@@ -36,4 +36,4 @@ next_bits-next-requires c = sized _ (sym c.no_map.ensures ∙ c.if-no_map.false)
 
 pub returns : goal.returns
 unfolding modelled
-returns c = simp (← c.no_map.ensures, c.if-no_map.false, ← c.is_outside.ensures, c.if-is_outside.false, ← c.no_values.ensures, c.if-no_values.false) (answer-is _ _ _ _ _ _ _ c.all_signals-sig.ensures c.shown_pins-shown.ensures c.value_pins-values.ensures c.next_bits-next.ensures)
+returns c = simp (← c.no_map.ensures, c.if-no_map.false, ← c.is_outside.ensures, c.if-is_outside.false, ← c.no_values.ensures, c.if-no_values.false) (answer_is _ _ _ _ _ _ _ c.all_signals-sig.ensures c.shown_pins-shown.ensures c.value_pins-values.ensures c.next_bits-next.ensures)

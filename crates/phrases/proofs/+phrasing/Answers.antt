@@ -1,6 +1,6 @@
 use borrow.Author.Tests.{eq-eqb, ne_eqb}
 use mathlib.Core.Path.{sym, ap, ◌∙◌}
-use Rattle.grammar.specs.Modules.{statement as gstatement, statementTurn, looped, ranged, forFrom}
+use Rattle.grammar.specs.Modules.{statement as gstatement, statement_turn, looped, ranged, for_from}
 use Rattle.phrases.specs.Seen.{seen_go}
 use Rattle.phrases.proofs.Lists.{statement_falls, statement_more, statement_last, for_some, for_none}
 use Rattle.phrases.proofs.+phrasing.Goals as goal
@@ -20,15 +20,15 @@ pub for_loop-returns : goal.for_loop-returns
 for_loop-returns t c = c.for_name.ensures ∙ sym (for_some _ _ _ _ c.if-depth-eq0.false)
 
 pub for_name-returns-then-kind-eq1 : goal.for_name-returns-then-kind-eq1
-unfolding forFrom
+unfolding for_from
 for_name-returns-then-kind-eq1 t c = simp (← c.for_range.ensures, eq-eqb _ _ c.if-kind-eq1.true, c.in-Word.is, ← c.next.ensures)
 
 pub for_name-returns-else-kind-eq1 : goal.for_name-returns-else-kind-eq1
-unfolding forFrom
+unfolding for_from
 for_name-returns-else-kind-eq1 t c = simp (ne_eqb _ _ c.if-kind-eq1.false, c.in-Word.is, ← c.next.ensures)
 
 pub for_name-returns-in-Refused : goal.for_name-returns-in-Refused
-unfolding forFrom
+unfolding for_from
 for_name-returns-in-Refused t c = simp (c.in-Refused.is, ← c.next.ensures)
 
 pub for_range-returns-in-Past-up_to : goal.for_range-returns-in-Past-up_to
@@ -72,17 +72,17 @@ pub statement_list-returns-in-Stop : goal.statement_list-returns-in-Stop
 statement_list-returns-in-Stop t c = sym (statement_last _ _ _ _ (sym c.statement_turn.ensures ∙ ap seen_go c.in-Stop.is)) ∙ c.loop-next.invariant
 
 pub statement_turn-returns-then-kind-eq59 : goal.statement_turn-returns-then-kind-eq59
-unfolding statementTurn
+unfolding statement_turn
 statement_turn-returns-then-kind-eq59 t c = simp (eq-eqb _ _ c.if-kind-eq59.true, c.in-Word.is, ← c.next.ensures, c.in-Past.is, ← c.one_statement.ensures)
 
 pub statement_turn-returns-else-kind-eq59 : goal.statement_turn-returns-else-kind-eq59
-unfolding statementTurn
+unfolding statement_turn
 statement_turn-returns-else-kind-eq59 t c = simp (ne_eqb _ _ c.if-kind-eq59.false, c.in-Word.is, ← c.next.ensures, c.in-Past.is, ← c.one_statement.ensures)
 
 pub statement_turn-returns-in-Refused-next : goal.statement_turn-returns-in-Refused-next
-unfolding statementTurn
+unfolding statement_turn
 statement_turn-returns-in-Refused-next t c = simp (c.in-Refused-next.is, ← c.next.ensures, c.in-Past.is, ← c.one_statement.ensures)
 
 pub statement_turn-returns-in-Refused : goal.statement_turn-returns-in-Refused
-unfolding statementTurn
+unfolding statement_turn
 statement_turn-returns-in-Refused t c = simp (c.in-Refused.is, ← c.one_statement.ensures)

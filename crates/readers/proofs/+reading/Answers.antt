@@ -1,7 +1,7 @@
 use borrow.Author.Tests.{eq-eqb, ne_eqb}
 use native.Mathlib.Omega.{arith}
 use mathlib.Core.Path.{refl, sym, ◌∙◌}
-use Rattle.grammar.specs.Grammar.{turn, level, closed, part as gpart, bracketed, named, muxThird, muxSecond, muxed, kept, regged, inverted, factor as gfactor, term as gterm, expression as gexpression}
+use Rattle.grammar.specs.Grammar.{turn, level, closed, part as gpart, bracketed, named, mux_third, mux_second, muxed, kept, regged, inverted, factor as gfactor, term as gterm, expression as gexpression}
 use Rattle.grammar.proofs.Chain.{real_sum, real_product}
 use Rattle.readers.proofs.Links.{word_past, term_past, factor_past, inner_past, part_past, sum_more, sum_last, product_more, product_last, inner_some, negated_some, inner_none}
 use Rattle.readers.proofs.+reading.Goals as goal
@@ -154,19 +154,19 @@ mux_second-mux_third-requires t c = let h = part_past _ _ _ _ _ _ _ _ _ _ _ (rw 
     omega arith
 
 pub mux_second-returns-in-Value : goal.mux_second-returns-in-Value
-unfolding muxSecond
+unfolding mux_second
 mux_second-returns-in-Value t c = simp (← c.mux_third.ensures, c.in-Value.is, ← c.part.ensures, ← c.part_sort.ensures)
 
 pub mux_second-returns-in-Refused : goal.mux_second-returns-in-Refused
-unfolding muxSecond
+unfolding mux_second
 mux_second-returns-in-Refused t c = simp (c.in-Refused.is, ← c.part.ensures, ← c.part_sort.ensures)
 
 pub mux_third-returns-in-Value : goal.mux_third-returns-in-Value
-unfolding muxThird
+unfolding mux_third
 mux_third-returns-in-Value t c = simp (← c.put.ensures, ← c.mark.ensures, c.in-Value.is, ← c.part.ensures, ← c.part_sort.ensures)
 
 pub mux_third-returns-in-Refused : goal.mux_third-returns-in-Refused
-unfolding muxThird
+unfolding mux_third
 mux_third-returns-in-Refused t c = simp (c.in-Refused.is, ← c.part.ensures, ← c.part_sort.ensures)
 
 pub negated-returns-then-depth-eq0 : goal.negated-returns-then-depth-eq0

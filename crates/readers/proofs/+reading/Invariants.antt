@@ -5,7 +5,7 @@ use mathlib.Core.Path.{◌≡◌}
 use Prim.Native.Nat.{◌+◌, ◌-◌, ◌*◌, ◌≤◌}
 use lib.ListN.{length}
 use Rattle.integers.specs.Integers.{num}
-use Rattle.readers.specs.Readers.{sumsOf, products_of}
+use Rattle.readers.specs.Readers.{sums_of, products_of}
 use Rattle.readers.proofs.+reading.Given as goal
 
 abbrev pub decreases-bracket : goal.decreases-bracket
@@ -69,7 +69,7 @@ abbrev pub decreases-products-loop-value : goal.decreases-products-loop-value
 decreases-products-loop-value l = length l.text - l.at
 
 abbrev pub invariant-sums-loop-value : goal.invariant-sums-loop-value
-invariant-sums-loop-value l = (length l.text - l.at ≤ length l.text - l.initial.at) × (sumsOf l.text l.names l.depth l.sort (num l.left) l.at (l.room, l.n) ≡ sumsOf l.text l.names l.depth l.sort (num l.initial.left) l.initial.at (l.initial.room, l.initial.n))
+invariant-sums-loop-value l = (length l.text - l.at ≤ length l.text - l.initial.at) × (sums_of l.text l.names l.depth l.sort (num l.left) l.at (l.room, l.n) ≡ sums_of l.text l.names l.depth l.sort (num l.initial.left) l.initial.at (l.initial.room, l.initial.n))
 
 abbrev pub decreases-sums-loop-value : goal.decreases-sums-loop-value
 decreases-sums-loop-value l = length l.text - l.at

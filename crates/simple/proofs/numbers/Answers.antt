@@ -1,10 +1,10 @@
 use mathlib.Core.Path.{refl, sym, ◌∙◌}
-use Rattle.simple.specs.Statements.{numbersOf}
+use Rattle.simple.specs.Statements.{numbers_of}
 use Rattle.simple.proofs.Laws.{numbers_more, numbers_last, numbers_falls}
 use Rattle.simple.proofs.numbers.Goals as goal
 
 pub loop-value-init : goal.loop-value-init
-unfolding numbersOf
+unfolding numbers_of
 loop-value-init c = (refl, refl)
 
 pub loop-value-smaller : goal.loop-value-smaller

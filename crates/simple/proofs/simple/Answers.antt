@@ -1,9 +1,9 @@
 use Rattle.simple.proofs.Laws.{simple_none}
-use Rattle.simple.specs.Statements.{simpleOf}
+use Rattle.simple.specs.Statements.{simple_of}
 use Rattle.simple.proofs.simple.Goals as goal
 
 pub returns-then-one_more : goal.returns-then-one_more
-unfolding simpleOf
+unfolding simple_of
 returns-then-one_more c =
     simp (← c.act.ensures, c.if-one_more.true, ← c.one_more.ensures.0, ← c.one_more.ensures.1)
 

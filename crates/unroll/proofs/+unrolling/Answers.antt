@@ -2,7 +2,7 @@ use borrow.Author.Rules.{rules}
 use borrow.Author.Tests.{eq-eqb, ne_eqb}
 use mathlib.Core.Path.{◌≡◌, refl, sym, ◌∙◌}
 use lib.ListN.{length}
-use Rattle.unroll.specs.Loops.{loop_of, statementTurn}
+use Rattle.unroll.specs.Loops.{loop_of, statement_turn}
 use Rattle.unroll.proofs.Laws.{statements_more, statements_last, statements_falls, turns_halt, turns_done, for_none, for_goes, for_halts, round_goes, round_none, lent_whole, turns_step}
 use Rattle.unroll.proofs.+unrolling.Goals as goal
 
@@ -31,31 +31,31 @@ unfolding loop_of
 run_loop-returns-in-Cut t c = simp (c.in-Cut.is, ← c.pass_over.ensures)
 
 pub statement_turn-returns-in-Value : goal.statement_turn-returns-in-Value
-unfolding statementTurn
+unfolding statement_turn
 statement_turn-returns-in-Value t c = simp (c.in-Value.is, ← c.simple.ensures, eq-eqb _ _ c.if-kind-eq1.true, c.in-Word.is, ← c.next.ensures)
 
 pub statement_turn-returns-in-Refused-simple : goal.statement_turn-returns-in-Refused-simple
-unfolding statementTurn
+unfolding statement_turn
 statement_turn-returns-in-Refused-simple t c = simp (c.in-Refused-simple.is, ← c.simple.ensures, eq-eqb _ _ c.if-kind-eq1.true, c.in-Word.is, ← c.next.ensures)
 
 pub statement_turn-returns-in-Value-run_for : goal.statement_turn-returns-in-Value-run_for
-unfolding statementTurn
+unfolding statement_turn
 statement_turn-returns-in-Value-run_for t c = simp (c.in-Value-run_for.is, ← c.run_for.ensures, eq-eqb _ _ c.if-kind.true, ne_eqb _ _ c.if-kind-eq1.false, c.in-Word.is, ← c.next.ensures)
 
 pub statement_turn-returns-in-Refused-run_for : goal.statement_turn-returns-in-Refused-run_for
-unfolding statementTurn
+unfolding statement_turn
 statement_turn-returns-in-Refused-run_for t c = simp (c.in-Refused-run_for.is, ← c.run_for.ensures, eq-eqb _ _ c.if-kind.true, ne_eqb _ _ c.if-kind-eq1.false, c.in-Word.is, ← c.next.ensures)
 
 pub statement_turn-returns-then-kind-eq59 : goal.statement_turn-returns-then-kind-eq59
-unfolding statementTurn
+unfolding statement_turn
 statement_turn-returns-then-kind-eq59 t c = simp (eq-eqb _ _ c.if-kind-eq59.true, ne_eqb _ _ c.if-kind.false, ne_eqb _ _ c.if-kind-eq1.false, c.in-Word.is, ← c.next.ensures)
 
 pub statement_turn-returns-else-kind-eq59 : goal.statement_turn-returns-else-kind-eq59
-unfolding statementTurn
+unfolding statement_turn
 statement_turn-returns-else-kind-eq59 t c = simp (ne_eqb _ _ c.if-kind-eq59.false, ne_eqb _ _ c.if-kind.false, ne_eqb _ _ c.if-kind-eq1.false, c.in-Word.is, ← c.next.ensures)
 
 pub statement_turn-returns-in-Refused : goal.statement_turn-returns-in-Refused
-unfolding statementTurn
+unfolding statement_turn
 statement_turn-returns-in-Refused t c = simp (c.in-Refused.is, ← c.next.ensures)
 
 pub statements-loop-c-init : goal.statements-loop-c-init

@@ -4,7 +4,7 @@ use mathlib.Core.Path.{◌≡◌}
 use Prim.Native.Nat.{◌+◌, ◌-◌, ◌*◌}
 use lib.ListN.{length}
 use Rattle.integers.specs.Integers.{num}
-use Rattle.unroll.specs.Loops.{turnsOf, statements_of}
+use Rattle.unroll.specs.Loops.{turns_of, statements_of}
 use Rattle.unroll.proofs.Laws.{rest}
 use Rattle.unroll.proofs.+unrolling.Given as goal
 
@@ -33,7 +33,7 @@ abbrev pub decreases-statements-loop-c : goal.decreases-statements-loop-c
 decreases-statements-loop-c l = length l.text - l.at
 
 abbrev pub invariant-turns-loop-left : goal.invariant-turns-loop-left
-invariant-turns-loop-left l = turnsOf l.text l.names (statements_of l.text l.depth) l.place l.start l.end l.body.at l.over.at l.left (num l.z) (l.room, l.n) ≡ turnsOf l.text l.names (statements_of l.text l.depth) l.place l.start l.end l.body.at l.over.at l.initial.left (num l.initial.z) (l.initial.room, l.initial.n)
+invariant-turns-loop-left l = turns_of l.text l.names (statements_of l.text l.depth) l.place l.start l.end l.body.at l.over.at l.left (num l.z) (l.room, l.n) ≡ turns_of l.text l.names (statements_of l.text l.depth) l.place l.start l.end l.body.at l.over.at l.initial.left (num l.initial.z) (l.initial.room, l.initial.n)
 
 abbrev pub decreases-turns-loop-left : goal.decreases-turns-loop-left
 decreases-turns-loop-left l = l.left
