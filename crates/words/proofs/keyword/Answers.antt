@@ -1,32 +1,15 @@
-use borrow.Author.Tests.{eq-eqb, ne_eqb}
-use Rattle.words.specs.Words.{keyword_of}
+use Rattle.std.proofs.Common.{sym, ◌∙◌}
+use Rattle.words.proofs.Reserved.{table_says, looked_here, looked_past, looked_none}
 use Rattle.words.proofs.keyword.Goals as goal
 
-pub returns-then-n-eq2 : goal.returns-then-n-eq2
-unfolding keyword_of
-returns-then-n-eq2 c = simp (← c.of_two.ensures, eq-eqb _ _ c.if-n-eq2.true)
+pub loop-word-init : goal.loop-word-init
+loop-word-init c = table_says c.args.name.now
 
-pub returns-then-n-eq3 : goal.returns-then-n-eq3
-unfolding keyword_of
-returns-then-n-eq3 c =
-    simp (← c.of_three.ensures, eq-eqb _ _ c.if-n-eq3.true, ne_eqb _ _ c.if-n-eq2.false)
+pub returns-then-eq : goal.returns-then-eq
+returns-then-eq c = sym (looked_here _ _ c.loop-word.word-index _ c.loop-word-test.true (sym c.eq.ensures ∙ c.if-eq.true)) ∙ c.loop-word.invariant
 
-pub returns-then-n-eq4 : goal.returns-then-n-eq4
-unfolding keyword_of
-returns-then-n-eq4 c =
-    simp (← c.of_four.ensures, eq-eqb _ _ c.if-n-eq4.true, ne_eqb _ _ c.if-n-eq3.false, ne_eqb _ _ c.if-n-eq2.false)
-
-pub returns-then-n-eq5 : goal.returns-then-n-eq5
-unfolding keyword_of
-returns-then-n-eq5 c =
-    simp (← c.of_five.ensures, eq-eqb _ _ c.if-n-eq5.true, ne_eqb _ _ c.if-n-eq4.false, ne_eqb _ _ c.if-n-eq3.false, ne_eqb _ _ c.if-n-eq2.false)
-
-pub returns-then-n-eq6 : goal.returns-then-n-eq6
-unfolding keyword_of
-returns-then-n-eq6 c =
-    simp (← c.of_six.ensures, eq-eqb _ _ c.if-n-eq6.true, ne_eqb _ _ c.if-n-eq5.false, ne_eqb _ _ c.if-n-eq4.false, ne_eqb _ _ c.if-n-eq3.false, ne_eqb _ _ c.if-n-eq2.false)
+pub loop-word-preserved : goal.loop-word-preserved
+loop-word-preserved c = sym (looked_past _ _ c.loop-word.word-index _ c.loop-word-test.true (sym c.eq.ensures ∙ c.if-eq.false)) ∙ c.loop-word.invariant
 
 pub returns : goal.returns
-unfolding keyword_of
-returns c =
-    simp (ne_eqb _ _ c.if-n-eq6.false, ne_eqb _ _ c.if-n-eq5.false, ne_eqb _ _ c.if-n-eq4.false, ne_eqb _ _ c.if-n-eq3.false, ne_eqb _ _ c.if-n-eq2.false)
+returns c = sym (looked_none _ _ c.loop-word.word-index c.loop-word-test.false) ∙ c.loop-word.invariant

@@ -1,8 +1,11 @@
-use Rattle.words.proofs.Values.{number_large, number_small}
+use Rattle.words.specs.Bytes.{is_digit}
+use Rattle.words.proofs.Values.{number_some, number_none}
 use Rattle.words.proofs.number_at.Goals as goal
 
-pub returns-then-v-gt65535 : goal.returns-then-v-gt65535
-returns-then-v-gt65535 c = number_large _ _ _ _ c.literal-v.ensures c.literal_end-end.ensures c.if-v-gt65535.true
+pub returns-in-Some : goal.returns-in-Some
+returns-in-Some c =
+    rw c.new.ensures (number_some _ _ _ (c.end_of-end.ensures.end is_digit (λ b r h q. q)) _ c.in-Some.ensures)
 
-pub returns : goal.returns
-returns c = number_small _ _ _ _ c.literal-v.ensures c.literal_end-end.ensures c.if-v-gt65535.false
+pub returns-in-None : goal.returns-in-None
+returns-in-None c =
+    rw c.new-in-None.ensures (number_none _ _ _ (c.end_of-end.ensures.end is_digit (λ b r h q. q)) c.in-None.ensures)

@@ -1,32 +1,25 @@
-use mathlib.Core.Path.{sym, ap, ◌∙◌}
-use Prim.Native.Nat.{ℕ}
-use lib.ListN.{get_or, drop}
-use Rattle.words.specs.Bytes.{turn_of}
-use Rattle.words.specs.Words.{gap}
-use Rattle.words.proofs.Laws.{gap_stop, gap_more, gap_here, gap_cut}
+use Rattle.std.proofs.Common.{sym, ap, ◌∙◌}
+use Rattle.std.proofs.lemmas.Result.{err_from_is_err_and}
+use Rattle.words.specs.Kinds.{gapped}
+use Rattle.words.proofs.Laws.{gap_opens, gap_blank, gap_word, gap_here}
+use Rattle.words.proofs.Laws.{gapped_one}
 use Rattle.words.proofs.skip.Goals as goal
 
-pub returns-then-m-eq4 : goal.returns-then-m-eq4
-returns-then-m-eq4 c =
-    let b = c.byte_at in
-    let l = c.loop-i in
-    let t = c.args.text in
-    sym (gap_stop _ _ c.loop-i-test.true _
-    (ap (turn_of l.mode (get_or t.now l.i 0)) (sym b.ensures) ∙ sym c.turn-m.ensures ∙ c.if-m-eq4.true)) ∙ l.invariant
+pub returns-in_err-i : goal.returns-in_err-i
+returns-in_err-i c =
+    let p = err_from_is_err_and c.from_residual.result c.from_residual.ensures.1 in
+    rw (p.1, p.2) (c.in_err-i.ensures.value ∙ ap gapped (sym (gap_opens _ _ c.loop-i-test.true (sym (rw c.byte_at.ensures at c.opens.ensures) ∙ c.if-opens.true)) ∙ c.loop-i.invariant))
+
+pub loop-i-preserved-then-opens : goal.loop-i-preserved-then-opens
+loop-i-preserved-then-opens c =
+    gapped_one _ _ c.in_ok-i.ensures.value ∙ sym (gap_opens _ _ c.loop-i-test.true (sym (rw c.byte_at.ensures at c.opens.ensures) ∙ c.if-opens.true)) ∙ c.loop-i.invariant
 
 pub loop-i-preserved : goal.loop-i-preserved
-loop-i-preserved c =
-    let b = c.byte_at in
-    let l = c.loop-i in
-    let t = c.args.text in
-    sym (gap_more _ _ c.loop-i-test.true _ _
-    (ap (turn_of l.mode (get_or t.now l.i 0)) (sym b.ensures) ∙ sym c.turn-m.ensures) c.if-m-eq4.false) ∙ l.invariant
+loop-i-preserved c = sym (gap_blank _ _ c.loop-i-test.true (sym c.is_blank.ensures ∙ c.if-is_blank.true)) ∙ c.loop-i.invariant
 
-pub returns-then-mode-eq0 : goal.returns-then-mode-eq0
-returns-then-mode-eq0 c =
-    let l = c.loop-i in
-    let t = c.args.text in
-    sym (ap (λ (m : ℕ). gap m (drop l.i t.now) l.i) c.if-mode-eq0.true ∙ gap_here _ _ c.loop-i-test.false) ∙ l.invariant
+pub returns-else-is_blank : goal.returns-else-is_blank
+returns-else-is_blank c =
+    ap gapped (sym (gap_word _ _ c.loop-i-test.true (sym (rw c.byte_at.ensures at c.opens.ensures) ∙ c.if-opens.false) (sym c.is_blank.ensures ∙ c.if-is_blank.false)) ∙ c.loop-i.invariant)
 
 pub returns : goal.returns
-returns c = sym (gap_cut _ _ c.loop-i-test.false _ c.if-mode-eq0.false) ∙ c.loop-i.invariant
+returns c = ap gapped (sym (gap_here _ _ c.loop-i-test.false) ∙ c.loop-i.invariant)
