@@ -1,9 +1,0 @@
-use native.Mathlib.Numerals.{add-one}
-use Rattle.integers.proofs.rest.Goals as goal
-
-pub returns-in-Up : goal.returns-in-Up
-returns-in-Up c =
-    simp c.in-Up.is
-
-pub returns-in-Down : goal.returns-in-Down
-returns-in-Down c = simp (c.in-Down.is, add-one)
