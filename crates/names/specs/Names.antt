@@ -1,10 +1,9 @@
 -- What a name means at a place: the names that stand there, the newest first, each known by its spelling. Document 01, 'The language we take':
 -- a loop variable is local and hides an outer name (decision 21).
-use Rattle.std.specs.Prelude.{ℕ, Bool, true, false, ◌&&◌, List, [], ◌∷◌, length, take, drop, eqb, leb, ℤ, pos, negsuc}
+use Rattle.std.specs.Prelude.{ℕ, Bool, true, false, ◌&&◌, List, [], ◌∷◌, length, take, drop, eqb, leb, Option, Some, None, ℤ, pos, negsuc}
 use Rattle.basics.specs.Choice.{pick}
-use Rattle.names.specs.declared.Table.{Table}
-use Rattle.names.specs.declared.Found.{Found}
-use Rattle.names.specs.declared.Found.TheVariants.{Known, Unknown}
+use Rattle.names.specs.declared.table.Table.{Table}
+use Rattle.names.specs.declared.Entry.{Entry as Told}
 
 -- a spelling: how many bytes, and the bytes
 pub record Spelling : Type 0 where
@@ -22,10 +21,6 @@ same_bytes (a ∷ xs) [] = false
 same_bytes (a ∷ xs) (b ∷ ys) =
     let r : Bool = same_bytes xs ys in
     eqb a b && r
-
--- the n bytes at x are those at y
-unfoldable pub alike : List ℕ → ℕ → ℕ → ℕ → Bool
-alike s n x y = same_bytes (take n (drop x s)) (take n (drop y s))
 
 unfoldable pub same : Spelling → Spelling → Bool
 same a b = eqb a.size b.size && same_bytes a.bytes b.bytes
@@ -74,9 +69,9 @@ abbrev pub shown : Sought → Seen
 shown (found e) = known e.kind e.value e.size
 shown missing = unknown
 
-abbrev pub seen_found : Found → Seen
-seen_found (Known k v n) = known k v n
-seen_found Unknown = unknown
+abbrev pub seen_found : Option Told → Seen
+seen_found (Some e) = known e.kind e.value e.size
+seen_found None = unknown
 
 -- what the name of n bytes at st is, among the names t
 unfoldable pub looked_up : List ℕ → List ℕ → ℕ → ℕ → Seen
