@@ -11,7 +11,7 @@ use lib.Dec.{eqb, leb}
 use lib.IntN.{ℤ, pos}
 use borrow.Author.Tests.{eq-eqb, ne_eqb}
 use Rattle.words.specs.declared.Cursor.{Cursor}
-use Rattle.words.specs.declared.Taken.TheVariants.{Word}
+use Rattle.words.specs.Taken.{Word}
 use Rattle.words.specs.Words.{next_word}
 use Rattle.words.proofs.Forward.{next_forward}
 use Rattle.names.specs.Names.{looked_up, held}

@@ -8,7 +8,7 @@ use native.Mathlib.Omega.{arith}
 use lib.Dec.{leb}
 use borrow.Author.Tests.{le-leb, lt-leb}
 use Rattle.words.specs.declared.Cursor.{Cursor}
-use Rattle.words.specs.declared.Taken.TheVariants.{Word}
+use Rattle.words.specs.Taken.{Word}
 use Rattle.words.specs.Words.{next_word}
 use Rattle.names.specs.Names.{spelling, same}
 use Rattle.grammar.specs.Outcome.{ok, more, last}

@@ -13,8 +13,8 @@ use Rattle.basics.specs.Choice.{pick}
 use Rattle.basics.proofs.Truth.{clash}
 use Rattle.names.specs.Names.{Spelling, spelling, same_bytes, same, looked_up}
 use Rattle.words.specs.declared.Cursor.{Cursor}
-use Rattle.words.specs.declared.Taken.{Taken}
-use Rattle.words.specs.declared.Taken.TheVariants.{Word, Refused}
+use Rattle.words.specs.Taken.{Taken}
+use Rattle.words.specs.Taken.{Word, Refused}
 use Rattle.words.specs.Words.{next_word}
 use Rattle.grammar.specs.Outcome.{Outcome, ok, no, Turn, more, last}
 use Rattle.lists.specs.Lists.{back_of, is_back, is_known, fresh_name, fresh_turn, fresh_of}

@@ -15,8 +15,8 @@ use Rattle.words.specs.Words.{gap, end_of, value_of, of_two, of_three, of_four, 
 use Rattle.words.specs.declared.Cursor.{Cursor}
 use Rattle.words.specs.declared.Gap.{Gap}
 use Rattle.words.specs.declared.Gap.TheVariants.{Here, Cut}
-use Rattle.words.specs.declared.Taken.{Taken}
-use Rattle.words.specs.declared.Taken.TheVariants.{Word, Refused}
+use Rattle.words.specs.Taken.{Taken}
+use Rattle.words.specs.Taken.{Word, Refused}
 use Rattle.words.proofs.Laws.{left_cons, end_more}
 use Rattle.words.proofs.Forward.{end_from}
 use Rattle.names.specs.Names.{spelling, same_bytes, same}

@@ -4,8 +4,8 @@
 -- No answer hangs on it: proofs/Sifted has that the names of a list are judged as `fresh_of` says whatever the cells hold at first.
 use Rattle.std.specs.Prelude.{ℕ, zero, suc, ◌+◌, ◌-◌, ◌*◌, ◌/◌, ◌%◌, ◌^◌, Bool, false, List, length, get_or, set, eqb, leb, ltb}
 use Rattle.basics.specs.Choice.{pick}
-use Rattle.words.specs.declared.Taken.{Taken}
-use Rattle.words.specs.declared.Taken.TheVariants.{Word, Refused}
+use Rattle.words.specs.Taken.{Taken}
+use Rattle.words.specs.Taken.{Word, Refused}
 use Rattle.words.specs.Words.{next_word}
 use Rattle.names.specs.Names.{Spelling, spelling, same, looked_up}
 use Rattle.grammar.specs.Outcome.{ok, no, Turn, more, last}

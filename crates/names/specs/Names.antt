@@ -22,6 +22,10 @@ same_bytes (a ∷ xs) (b ∷ ys) =
     let r : Bool = same_bytes xs ys in
     eqb a b && r
 
+-- the n bytes at x are those at y
+unfoldable pub alike : List ℕ → ℕ → ℕ → ℕ → Bool
+alike s n x y = same_bytes (take n (drop x s)) (take n (drop y s))
+
 unfoldable pub same : Spelling → Spelling → Bool
 same a b = eqb a.size b.size && same_bytes a.bytes b.bytes
 

@@ -13,8 +13,8 @@ use lib.IntN.{ℤ, pos}
 use borrow.Author.Tests.{eqb-true, ltb-true}
 use Rattle.basics.specs.Choice.{pick}
 use Rattle.basics.proofs.Truth.{clash}
-use Rattle.words.specs.declared.Taken.{Taken}
-use Rattle.words.specs.declared.Taken.TheVariants.{Word, Refused}
+use Rattle.words.specs.Taken.{Taken}
+use Rattle.words.specs.Taken.{Word, Refused}
 use Rattle.words.specs.Words.{next_word}
 use Rattle.integers.specs.Integers.{nextℤ}
 use Rattle.grammar.specs.Outcome.{Outcome, ok, no, built, bad, more, last, and_then}

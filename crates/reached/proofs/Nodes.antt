@@ -12,8 +12,8 @@ use lib.IntN.{ℤ, pos}
 use borrow.Author.Tests.{ltb-true, lt-ltb}
 use Rattle.basics.specs.Choice.{pick}
 use Rattle.basics.proofs.Truth.{clash}
-use Rattle.words.specs.declared.Taken.{Taken}
-use Rattle.words.specs.declared.Taken.TheVariants.{Word, Refused}
+use Rattle.words.specs.Taken.{Taken}
+use Rattle.words.specs.Taken.{Word, Refused}
 use Rattle.words.specs.Words.{next_word}
 use Rattle.grammar.specs.Outcome.{Outcome, ok, no, Built, built, bad, on_word, and_then, built_at, after_built}
 use Rattle.grammar.specs.Grammar.{index_sort, part_sort, part, dotted, bracketed, pointed, named, expression, nested}

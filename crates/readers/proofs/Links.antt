@@ -9,8 +9,8 @@ use native.Mathlib.Numerals.{sub-one}
 use lib.ListN.{length}
 use lib.IntN.{ℤ}
 use Rattle.words.specs.declared.Cursor.{Cursor}
-use Rattle.words.specs.declared.Taken.{Taken}
-use Rattle.words.specs.declared.Taken.TheVariants.{Word}
+use Rattle.words.specs.Taken.{Taken}
+use Rattle.words.specs.Taken.{Word}
 use Rattle.words.specs.Words.{next_word}
 use Rattle.words.proofs.Forward.{Forward, next_forward}
 use Rattle.grammar.specs.Outcome.{Outcome, ok, no, Turn, more, last}

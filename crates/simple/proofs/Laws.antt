@@ -12,7 +12,7 @@ use lib.IntN.{ℤ, pos}
 use borrow.Author.Tests.{eq-eqb, ne_eqb}
 use Rattle.basics.specs.Choice.{pick}
 use Rattle.words.specs.declared.Cursor.{Cursor}
-use Rattle.words.specs.declared.Taken.TheVariants.{Word}
+use Rattle.words.specs.Taken.{Word}
 use Rattle.words.specs.Words.{next_word}
 use Rattle.integers.specs.Integers.{nextℤ}
 use Rattle.grammar.specs.Outcome.{Outcome, ok, no, more, last}

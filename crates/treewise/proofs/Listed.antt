@@ -11,7 +11,7 @@ use lib.Dec.{eqb, leb}
 use borrow.Author.Tests.{eqb-true}
 use Rattle.basics.specs.Choice.{pick}
 use Rattle.words.specs.declared.Cursor.{Cursor}
-use Rattle.words.specs.declared.Taken.TheVariants.{Word}
+use Rattle.words.specs.Taken.{Word}
 use Rattle.words.specs.Words.{next_word}
 use Rattle.names.specs.Names.{looked_up, extended, spelling, same}
 use Rattle.grammar.specs.Outcome.{Outcome, ok, no, built, bad, more, last, after_built}

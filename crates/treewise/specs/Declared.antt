@@ -3,8 +3,8 @@
 -- a length's first word. Assumes nothing.
 use Rattle.std.specs.Prelude.{ℕ, ◌+◌, ◌-◌, Bool, ◌||◌, List, [], get_or, set, leb, ℤ, pos}
 use Rattle.basics.specs.Choice.{pick}
-use Rattle.words.specs.declared.Taken.{Taken}
-use Rattle.words.specs.declared.Taken.TheVariants.{Word, Refused}
+use Rattle.words.specs.Taken.{Taken}
+use Rattle.words.specs.Taken.{Word, Refused}
 use Rattle.words.specs.Words.{next_word}
 use Rattle.names.specs.Names.{looked_up, extended, spelling, same}
 use Rattle.grammar.specs.Outcome.{Built, built, bad, and_built}
