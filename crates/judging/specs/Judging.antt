@@ -1,15 +1,26 @@
 -- What a part of an expression is judged to be, for a sort: 0 only to be checked, 1 a number, 2 a signal, 3 a signal that is not counted. Document 01,
 -- 'The language we take' and refusals 3, 4, 5; decisions 14 to 16, 19, 20.
-use Rattle.std.specs.Prelude.{ℕ, ◌+◌, ◌-◌, List, eqb, ltb, ℤ, pos, negsuc}
+use Rattle.std.specs.Prelude.{ℕ, ◌+◌, ◌-◌, List, eqb, ltb, Option, Some, None, Result, Ok, Err, ℤ, pos, negsuc}
 use Rattle.basics.specs.Choice.{pick}
-use Rattle.integers.specs.Integers.{num, Answer, held, broken, combined}
+use Rattle.integers.specs.Integers.{num, Answer, held, broken, kind_of, combined}
 use Rattle.names.specs.Names.{Seen, known, unknown, number_of, looked_up}
+use Rattle.basics.specs.Refusal.{number_of as reason_of}
+use Rattle.basics.specs.declared.refusal.Refusal.{Refusal}
+use Rattle.integers.specs.declared.Operator.{Operator}
+use Rattle.judging.specs.declared.Sort.{Sort}
+use Rattle.judging.specs.declared.Sort.TheVariants.{Checked, Number, Signal, Uncounted}
 use Rattle.judging.specs.declared.Judged.{Judged}
-use Rattle.judging.specs.declared.Judged.TheVariants.{Number, Node, Fault}
-use Rattle.judging.specs.declared.Opened.{Opened}
-use Rattle.judging.specs.declared.Opened.TheVariants.{Base, Bad}
-use Rattle.judging.specs.declared.Meant.{Meant}
-use Rattle.judging.specs.declared.Meant.TheVariants.{Valued, Signal, Nothing}
+use Rattle.judging.specs.declared.Judged.TheVariants as given
+use Rattle.judging.specs.declared.Base.{Base}
+use Rattle.judging.specs.declared.Meaning.{Meaning as Meant}
+use Rattle.judging.specs.declared.Meaning.TheVariants as told
+
+-- the number of each sort
+abbrev pub sort_of : Sort → ℕ
+sort_of Checked = 0
+sort_of Number = 1
+sort_of Signal = 2
+sort_of Uncounted = 3
 
 -- a number, a node of a signal, or a refusal's number and place
 pub data Verdict : Type 0 where
@@ -29,19 +40,24 @@ pub data Meaning : Type 0 where
   nothing : Meaning
 
 -- what the code answers
-abbrev pub judged : Judged → Verdict
-judged (Number v) = number (num v)
-judged (Node c) = node c
-judged (Fault n p) = fault n p
+abbrev pub judged : Result Judged Refusal → Verdict
+judged (Ok (given.Number v)) = number (num v)
+judged (Ok (given.Node c)) = node c
+judged (Err r) = fault (reason_of r.reason) r.place
 
-abbrev pub opening : Opened → Array
-opening (Base f n) = base f n
-opening (Bad n p) = unfit n p
+abbrev pub opening : Result Base Refusal → Array
+opening (Ok b) = base b.first b.size
+opening (Err r) = unfit (reason_of r.reason) r.place
 
-abbrev pub meant : Meant → Meaning
-meant (Valued v) = valued (num v)
-meant (Signal f n) = signal f n
-meant Nothing = nothing
+abbrev pub meant : Option Meant → Meaning
+meant (Some (told.Value v)) = valued (num v)
+meant (Some (told.Signal b)) = signal b.first b.size
+meant None = nothing
+
+-- the operator on numbers that the code found
+abbrev pub combined_by : Option Operator → ℤ → ℤ → Answer
+combined_by (Some o) a b = combined (kind_of o) a b
+combined_by None a b = broken
 
 -- what the names that stand there say of a name: kind 2 is a signal, any other a number
 abbrev pub meaning_on : Seen → Meaning

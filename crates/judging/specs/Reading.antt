@@ -1,15 +1,16 @@
 -- Expressions read where they stand: the algebra that judges each part, and writes a node for each part of a signal. Document 01, 'The language we
 -- take' and refusal 6 (tree nodes); decision 23.
-use Rattle.std.specs.Prelude.{ℕ, ◌+◌, List, length, set, ltb, ℤ, pos}
+use Rattle.std.specs.Prelude.{ℕ, ◌+◌, List, length, set, ltb, Result, Ok, Err, ℤ, pos}
 use Rattle.basics.specs.Choice.{pick}
 use Rattle.integers.specs.Integers.{num}
 use Rattle.grammar.specs.Outcome.{Outcome, ok, no, Built, built, bad, Turn, more, last}
 use Rattle.grammar.specs.Grammar.{Algebra, dotted, pointed}
 use Rattle.judging.specs.Judging.{Verdict, number, node, fault, Array, base, unfit, mark_of, literal_of, logic_of, plain_of, opened_of, element_of, operator_of}
+use Rattle.basics.specs.Refusal.{number_of}
+use Rattle.basics.specs.declared.refusal.Refusal.{Refusal}
 use Rattle.judging.specs.declared.Read.{Read}
-use Rattle.judging.specs.declared.Read.TheVariants.{Value, Refused}
 use Rattle.judging.specs.declared.Step.{Step}
-use Rattle.judging.specs.declared.Step.TheVariants.{More, Last, Stop}
+use Rattle.judging.specs.declared.Step.TheVariants.{More, Last}
 
 -- the contents of the room that is lent, and how many nodes of the module are in it
 abbrev pub State : Type 0
@@ -48,15 +49,15 @@ reads s t = record {
   keep = λ o p a b x. done (mark_of o 8 p) p x;
 }
 
--- what the code answers, with what the room holds then
-abbrev pub seen : Read → List ℕ → Outcome State ℤ
-seen (Value v n c) room = ok (num v) c.at (room, n)
-seen (Refused k p n) room = no k p (room, n)
+-- what the code answers, with what the room holds then and how many nodes are in it
+abbrev pub seen : Result Read Refusal → State → Outcome State ℤ
+seen (Ok r) x = ok (num r.value) r.next.at x
+seen (Err r) x = no (number_of r.reason) r.place x
 
-abbrev pub seen_step : Step → List ℕ → Turn State ℤ
-seen_step (More v n c) room = more (num v) c.at (room, n)
-seen_step (Last v n c) room = last (ok (num v) c.at (room, n))
-seen_step (Stop k p n) room = last (no k p (room, n))
+abbrev pub seen_step : Result Step Refusal → State → Turn State ℤ
+seen_step (Ok (More r)) x = more (num r.value) r.next.at x
+seen_step (Ok (Last r)) x = last (ok (num r.value) r.next.at x)
+seen_step (Err r) x = last (no (number_of r.reason) r.place x)
 
 -- behind the dot of an index
 abbrev pub dotted_of : List ℕ → List ℕ → ℕ → ℕ → State → Outcome State ℤ

@@ -1,416 +1,343 @@
-// What the parts of an expression are, each judged for a sort: 0 only to be checked, 1 for a number, 2 for a signal, 3 for a signal that is not
-// counted. One function writes: a signal's nodes go to the room that is lent, operands first, and the count says how many are there.
+// What the parts of an expression are, each judged for a sort. One function writes: a signal's nodes go to the room that is lent, operands first, and
+// the count says how many are there.
 #![tactic(auto)]
 
-ghost use Rattle.std.specs.Prelude.{◌≡◌, true, false};
-ghost use Rattle.integers.specs.Integers.{num};
+ghost use Rattle.std.specs.Prelude.{◌≡◌, Ok, ℤ};
+ghost use Rattle.words.specs.Kinds.{code};
+ghost use Rattle.integers.specs.Integers.{num, combined};
 ghost use Rattle.grammar.specs.Outcome.{built_at};
 ghost use Rattle.grammar.specs.Grammar.{is_sum, is_product, index_sort, part_sort};
-ghost use Rattle.judging.specs.Judging.{judged, opening, meant, meaning_of, mark_of, literal_of, logic_of, plain_of, opened_of, element_of, operator_of};
+ghost use Rattle.judging.specs.Judging.{sort_of, judged, opening, meant, combined_by, meaning_of, mark_of, literal_of, logic_of, plain_of, opened_of, element_of, operator_of};
 ghost use Rattle.judging.specs.Reading.{seen, done, dotted_of, pointed_of};
 
-use integers::{Num, Value};
-use names::Found;
-use words::{Cursor, Taken};
+use basics::refusal::{Reason, Refusal};
+use integers::{Num, Operator};
+use words::{Cursor, Kind};
 
-// What a reader answers: a number (0 where no number is wanted), the count of nodes and the cursor past the part; or a refusal and the count.
-#[derive(Clone, Copy)]
-pub enum Read {
-    Value {
-        value: Num,
-        count: usize,
-        next: Cursor,
-    },
-    Refused {
-        number: u8,
-        place: usize,
-        count: usize,
-    },
+// What a part is read for: only to be checked, a number, a signal, or a signal that is not counted.
+#[derive(Clone, Copy, Debug, PartialEq, Eq)]
+pub enum Sort {
+    Checked = 0,
+    Number = 1,
+    Signal = 2,
+    Uncounted = 3,
 }
 
-// One turn of a chain of operators: go on, the end of the chain, or a refusal.
-#[derive(Clone, Copy)]
-pub enum Step {
-    More {
-        value: Num,
-        count: usize,
-        next: Cursor,
-    },
-    Last {
-        value: Num,
-        count: usize,
-        next: Cursor,
-    },
-    Stop {
-        number: u8,
-        place: usize,
-        count: usize,
-    },
-}
+// The nodes of signals: the two constants, the operators, MUX, REG of one part and of two; element k is the node that many behind the first element.
+pub const LOW: u32 = 0;
 
-#[derive(Clone, Copy)]
+pub const HIGH: u32 = 1;
+
+pub const NOT: u32 = 2;
+
+pub const AND: u32 = 3;
+
+pub const OR: u32 = 4;
+
+pub const XOR: u32 = 5;
+
+pub const MUX: u32 = 6;
+
+pub const REG: u32 = 7;
+
+pub const HELD: u32 = 8;
+
+pub const ELEMENT: u32 = 9;
+
+// How many nodes a module may have.
+pub const NODES: usize = 2048;
+
+// What a part is: a number (0 where no number is wanted), or a signal's node.
+#[derive(Clone, Copy, Debug, PartialEq, Eq)]
 pub enum Judged {
     Number(Num),
     Node(u32),
-    Fault { number: u8, place: usize },
 }
 
+// A signal's first element and its length, 0 for a BIT.
+#[derive(Clone, Copy, Debug, PartialEq, Eq)]
+pub struct Base {
+    pub first: u16,
+    pub size: u16,
+}
+
+// What a name stands for.
+#[derive(Clone, Copy, Debug, PartialEq, Eq)]
+pub enum Meaning {
+    Value(Num),
+    Signal(Base),
+}
+
+// What was read: a number (0 where no number is wanted), and the cursor past it.
+#[derive(Clone, Copy, Debug, PartialEq, Eq)]
+pub struct Read {
+    pub value: Num,
+    pub next: Cursor,
+}
+
+// One turn of a chain of operators: go on, or the end of the chain.
+#[derive(Clone, Copy, Debug, PartialEq, Eq)]
+pub enum Step {
+    More(Read),
+    Last(Read),
+}
+
+// A text, and the names that stand at a place of it.
 #[derive(Clone, Copy)]
-pub enum Opened {
-    Base { first: u16, size: u16 },
-    Bad { number: u8, place: usize },
+pub struct Scope<'a> {
+    pub text: &'a [u8],
+    pub names: &'a [u16],
 }
 
-#[derive(Clone, Copy)]
-pub enum Meant {
-    Valued(Num),
-    Signal { first: u16, size: u16 },
-    Nothing,
-}
-
-pub fn is_sum(kind: u8) -> bool
-    ensures { result ≡ is_sum kind }
+pub fn is_sum(kind: Kind) -> bool
+    ensures { result ≡ is_sum (code kind) }
 {
-    if kind == 43 {
-        return true;
-    }
-    kind == 45
+    matches!(kind, Kind::Plus | Kind::Minus)
 }
 
-pub fn is_product(kind: u8) -> bool
-    ensures { result ≡ is_product kind }
+pub fn is_product(kind: Kind) -> bool
+    ensures { result ≡ is_product (code kind) }
 {
-    if kind == 42 {
-        return true;
-    }
-    if kind == 94 {
-        return true;
-    }
-    if kind == 203 {
-        return true;
-    }
-    kind == 204
+    matches!(kind, Kind::Star | Kind::Caret | Kind::Div | Kind::Mod)
 }
 
-// The sort of an index.
-pub fn index_sort(sort: u8) -> u8
-    ensures { result ≡ index_sort sort }
-{
-    if sort == 0 { 0 } else { 1 }
-}
-
-// The sort of a part of MUX or REG.
-pub fn part_sort(sort: u8) -> u8
-    ensures { result ≡ part_sort sort }
-{
-    if sort == 1 { 3 } else { sort }
-}
-
-// What the name from start to end stands for.
-pub fn meaning(text: &[u8], names: &[u16], start: usize, end: usize) -> Meant
-    ensures { meant result ≡ meaning_of text.now names.now start end }
-{
-    match names::look_up(text, names, start, basics::span(start, end)) {
-        Found::Known { kind, value, size } => {
-            if kind == 2 {
-                return Meant::Signal { first: value, size };
-            }
-            if size == 0 {
-                return Meant::Valued(Num::Up(value));
-            }
-            Meant::Valued(Num::Down(value))
+impl Sort {
+    // The sort of an index.
+    #[tactic(auto, using(std::proofs::lemmas::Grind::common_steps), unfolding(grammar::specs::Grammar::index_sort))]
+    pub fn of_index(self) -> Sort
+        ensures { sort_of result ≡ index_sort (sort_of self) }
+    {
+        match self {
+            Sort::Checked => Sort::Checked,
+            _ => Sort::Number,
         }
-        Found::Unknown => Meant::Nothing,
+    }
+
+    // The sort of a part of MUX or REG.
+    #[tactic(auto, using(std::proofs::lemmas::Grind::common_steps), unfolding(grammar::specs::Grammar::part_sort))]
+    pub fn of_part(self) -> Sort
+        ensures { sort_of result ≡ part_sort (sort_of self) }
+    {
+        match self {
+            Sort::Number => Sort::Uncounted,
+            _ => self,
+        }
     }
 }
 
 // A node of a signal.
-pub fn mark(sort: u8, code: u32, place: usize) -> Judged
-    ensures { judged result ≡ mark_of sort code place }
+#[tactic(auto, using(std::proofs::lemmas::Grind::common_steps), unfolding(crate::specs::Judging::mark_of))]
+pub fn mark(sort: Sort, code: u32, place: usize) -> Result<Judged, Refusal>
+    ensures { judged result ≡ mark_of (sort_of sort) code place }
 {
-    if sort == 2 {
-        return Judged::Node(code);
-    }
-    if sort == 1 {
-        return Judged::Fault { number: 4, place };
-    }
-    Judged::Number(Num::Up(0))
-}
-
-pub fn literal(sort: u8, place: usize, value: u16) -> Judged
-    ensures { judged result ≡ literal_of sort place value }
-{
-    if sort == 1 {
-        return Judged::Number(Num::Up(value));
-    }
-    if sort == 0 {
-        return Judged::Number(Num::Up(0));
-    }
-    Judged::Fault { number: 4, place }
-}
-
-pub fn logic(sort: u8, place: usize, value: u16) -> Judged
-    ensures { judged result ≡ logic_of sort place value }
-{
-    if value == 0 {
-        return mark(sort, 0, place);
-    }
-    mark(sort, 1, place)
-}
-
-// A name without an index.
-pub fn plain(text: &[u8], names: &[u16], sort: u8, start: usize, end: usize) -> Judged
-    ensures { judged result ≡ plain_of text.now names.now sort start end }
-{
-    if sort == 0 {
-        return Judged::Number(Num::Up(0));
-    }
-    match meaning(text, names, start, end) {
-        Meant::Valued(value) => {
-            if sort == 1 {
-                return Judged::Number(value);
-            }
-            Judged::Fault {
-                number: 4,
-                place: start,
-            }
-        }
-        Meant::Signal { first, size } => {
-            if sort == 1 {
-                return Judged::Fault {
-                    number: 4,
-                    place: start,
-                };
-            }
-            if size == 0 {
-                return mark(sort, 9 + first as u32, start);
-            }
-            Judged::Fault {
-                number: 5,
-                place: start,
-            }
-        }
-        Meant::Nothing => Judged::Fault {
-            number: 4,
-            place: start,
-        },
+    match sort {
+        Sort::Signal => Ok(Judged::Node(code)),
+        Sort::Number => Err(Refusal::new(Reason::Name, place)),
+        Sort::Checked | Sort::Uncounted => Ok(Judged::Number(Num::Up(0))),
     }
 }
 
-// A name that an index at a place follows.
-pub fn open(text: &[u8], names: &[u16], sort: u8, start: usize, end: usize, place: usize) -> Opened
-    ensures { opening result ≡ opened_of text.now names.now sort start end place }
+#[tactic(auto, using(std::proofs::lemmas::Grind::common_steps), unfolding(crate::specs::Judging::literal_of))]
+pub fn literal(sort: Sort, place: usize, value: u16) -> Result<Judged, Refusal>
+    ensures { judged result ≡ literal_of (sort_of sort) place value }
 {
-    if sort == 0 {
-        return Opened::Base { first: 0, size: 0 };
+    match sort {
+        Sort::Number => Ok(Judged::Number(Num::from(value))),
+        Sort::Checked => Ok(Judged::Number(Num::Up(0))),
+        Sort::Signal | Sort::Uncounted => Err(Refusal::new(Reason::Name, place)),
     }
-    match meaning(text, names, start, end) {
-        Meant::Valued(_) => {
-            if sort == 1 {
-                return Opened::Bad { number: 5, place };
-            }
-            Opened::Bad {
-                number: 4,
-                place: start,
-            }
-        }
-        Meant::Signal { first, size } => {
-            if sort == 1 {
-                return Opened::Bad {
-                    number: 4,
-                    place: start,
-                };
-            }
-            if size == 0 {
-                return Opened::Bad { number: 5, place };
-            }
-            Opened::Base { first, size }
-        }
-        Meant::Nothing => Opened::Bad {
-            number: 4,
-            place: start,
-        },
+}
+
+#[tactic(auto, using(std::proofs::lemmas::Grind::common_steps), unfolding(crate::specs::Judging::logic_of))]
+pub fn logic(sort: Sort, place: usize, value: u16) -> Result<Judged, Refusal>
+    ensures { judged result ≡ logic_of (sort_of sort) place value }
+{
+    mark(sort, if value == 0 { LOW } else { HIGH }, place)
+}
+
+impl Scope<'_> {
+    // What the name from start to end stands for.
+    #[tactic(auto, using(std::proofs::lemmas::Grind::common_steps), unfolding(crate::specs::Judging::meaning_of, names::specs::Names::number_of))]
+    pub fn meaning(self, start: usize, end: usize) -> Option<Meaning>
+        ensures { meant result ≡ meaning_of self.entry.text.now self.entry.names.now start end }
+    {
+        let entry = names::look_up(self.text, self.names, start, basics::span(start, end))?;
+        Some(if entry.kind == names::SIGNAL {
+            Meaning::Signal(Base {
+                first: entry.value,
+                size: entry.size,
+            })
+        } else if entry.size == 0 {
+            Meaning::Value(Num::Up(entry.value))
+        } else {
+            Meaning::Value(Num::Down(entry.value))
+        })
     }
 }
 
 // An element of an array, by its index.
-pub fn element(sort: u8, start: usize, place: usize, first: u16, size: u16, index: Num) -> Judged
-    ensures { judged result ≡ element_of sort start place first size (num index) }
+#[tactic(auto, using(std::proofs::lemmas::Grind::common_steps), unfolding(crate::specs::Judging::element_of))]
+pub fn element(
+    sort: Sort,
+    start: usize,
+    place: usize,
+    base: Base,
+    index: Num,
+) -> Result<Judged, Refusal>
+    ensures { judged result ≡ element_of (sort_of sort) start place base.first base.size (num index) }
 {
-    if sort == 0 {
-        return Judged::Number(Num::Up(0));
-    }
     match index {
-        Num::Up(i) => {
-            if i < size {
-                return mark(sort, 9 + (first as u32 + i as u32), start);
-            }
-            Judged::Fault { number: 5, place }
-        }
-        Num::Down(_) => Judged::Fault { number: 5, place },
+        _ if sort == Sort::Checked => Ok(Judged::Number(Num::Up(0))),
+        Num::Up(i) if i < base.size => mark(sort, ELEMENT + (base.first as u32 + i as u32), start),
+        _ => Err(Refusal::new(Reason::Index, place)),
+    }
+}
+
+// The operator on numbers that a word is.
+#[tactic(auto, using(std::proofs::lemmas::Grind::common_steps), unfolding(integers::specs::Integers::combined))]
+fn operator(kind: Kind) -> Option<Operator>
+    ensures { (a b : ℤ) → combined_by result a b ≡ combined (code kind) a b }
+{
+    match kind {
+        Kind::Plus => Some(Operator::Plus),
+        Kind::Minus => Some(Operator::Minus),
+        Kind::Star => Some(Operator::Times),
+        Kind::Div => Some(Operator::Divide),
+        Kind::Mod => Some(Operator::Modulo),
+        Kind::Caret => Some(Operator::Power),
+        _ => None,
     }
 }
 
 // An operator at a place, between two operands.
-pub fn operate(sort: u8, kind: u8, place: usize, a: Num, b: Num) -> Judged
-    ensures { judged result ≡ operator_of sort kind place (num a) (num b) }
+#[tactic(auto, using(std::proofs::lemmas::Grind::common_steps), unfolding(crate::specs::Judging::operator_of))]
+pub fn operate(sort: Sort, kind: Kind, place: usize, a: Num, b: Num) -> Result<Judged, Refusal>
+    ensures { judged result ≡ operator_of (sort_of sort) (code kind) place (num a) (num b) }
 {
-    if sort == 0 {
-        return Judged::Number(Num::Up(0));
+    match (sort, kind) {
+        (Sort::Checked, _) => Ok(Judged::Number(Num::Up(0))),
+        (Sort::Number, _) => match operator(kind).and_then(|o| integers::combine(o, a, b)) {
+            Some(n) => Ok(Judged::Number(n)),
+            None => Err(Refusal::new(Reason::Arithmetic, place)),
+        },
+        (_, Kind::Plus) => mark(sort, OR, place),
+        (_, Kind::Minus) => mark(sort, XOR, place),
+        (_, Kind::Star) => mark(sort, AND, place),
+        _ => Err(Refusal::new(Reason::Name, place)),
     }
-    if sort == 1 {
-        match integers::combine(kind, a, b) {
-            Value::Held(n) => return Judged::Number(n),
-            Value::Broken => return Judged::Fault { number: 3, place },
-        }
-    }
-    if kind == 43 {
-        return mark(sort, 4, place);
-    }
-    if kind == 45 {
-        return mark(sort, 5, place);
-    }
-    if kind == 42 {
-        return mark(sort, 3, place);
-    }
-    Judged::Fault { number: 4, place }
 }
 
 // What was judged: a node is written.
-pub fn put(room: &mut [u32], count: usize, verdict: Judged, place: usize, next: Cursor) -> Read
-    ensures { seen result room.new ≡ built_at next.at (done (judged verdict) place (room.old, count)) }
+#[tactic(auto, using(std::proofs::lemmas::Grind::common_steps), unfolding(crate::specs::Reading::emitted))]
+pub fn put(
+    room: &mut [u32],
+    count: &mut usize,
+    verdict: Judged,
+    place: usize,
+    next: Cursor,
+) -> Result<Read, Refusal>
+    ensures { seen result (room.new, count.new) ≡ built_at next.at (done (judged (Ok verdict)) place (room.old, count.old)) }
 {
     match verdict {
-        Judged::Number(value) => Read::Value { value, count, next },
+        Judged::Number(value) => Ok(Read { value, next }),
         Judged::Node(code) => {
-            if count < 2048 {
-                if count < room.len() {
-                    room[count] = code;
-                    return Read::Value {
-                        value: Num::Up(0),
-                        count: count + 1,
-                        next,
-                    };
+            if *count >= NODES || *count >= room.len() {
+                return Err(Refusal::new(Reason::Limit, place));
+            }
+            room[*count] = code;
+            *count += 1;
+            Ok(Read {
+                value: Num::Up(0),
+                next,
+            })
+        }
+    }
+}
+
+impl Scope<'_> {
+    // A name without an index.
+    #[tactic(auto, using(std::proofs::lemmas::Grind::common_steps), unfolding(crate::specs::Judging::plain_of))]
+    pub fn plain(self, sort: Sort, start: usize, end: usize) -> Result<Judged, Refusal>
+        ensures { judged result ≡ plain_of self.entry.text.now self.entry.names.now (sort_of sort) start end }
+    {
+        if sort == Sort::Checked {
+            return Ok(Judged::Number(Num::Up(0)));
+        }
+        match self.meaning(start, end) {
+            Some(Meaning::Value(value)) if sort == Sort::Number => Ok(Judged::Number(value)),
+            Some(Meaning::Signal(base)) if sort != Sort::Number => {
+                if base.size == 0 {
+                    mark(sort, ELEMENT + base.first as u32, start)
+                } else {
+                    Err(Refusal::new(Reason::Index, start))
                 }
-                return Read::Refused {
-                    number: 6,
-                    place,
-                    count,
-                };
             }
-            Read::Refused {
-                number: 6,
+            _ => Err(Refusal::new(Reason::Name, start)),
+        }
+    }
+
+    // A name that an index at a place follows.
+    #[tactic(auto, using(std::proofs::lemmas::Grind::common_steps), unfolding(crate::specs::Judging::opened_of))]
+    pub fn open(self, sort: Sort, start: usize, end: usize, place: usize) -> Result<Base, Refusal>
+        ensures { opening result ≡ opened_of self.entry.text.now self.entry.names.now (sort_of sort) start end place }
+    {
+        if sort == Sort::Checked {
+            return Ok(Base { first: 0, size: 0 });
+        }
+        match self.meaning(start, end) {
+            Some(Meaning::Value(_)) if sort == Sort::Number => Err(Refusal::new(
+                Reason::Index,
                 place,
-                count,
+            )),
+            Some(Meaning::Signal(base)) if sort != Sort::Number => {
+                if base.size == 0 {
+                    Err(Refusal::new(Reason::Index, place))
+                } else {
+                    Ok(base)
+                }
             }
+            _ => Err(Refusal::new(Reason::Name, start)),
         }
-        Judged::Fault { number, place: at } => Read::Refused {
-            number,
-            place: at,
-            count,
-        },
     }
-}
 
-// Behind the dot of an index.
-pub fn dot(
-    text: &[u8],
-    names: &[u16],
-    room: &mut [u32],
-    count: usize,
-    sort: u8,
-    from: Cursor,
-) -> Read
-    ensures { seen result room.new ≡ dotted_of text.now names.now sort from.at (room.old, count) }
-{
-    match from.next(text) {
-        Taken::Word {
-            kind,
-            start,
-            value,
-            next,
-        } => {
-            if kind == 2 {
-                return put(room, count, literal(sort, start, value), start, next);
-            }
-            if kind == 4 {
-                return Read::Refused {
-                    number: 3,
-                    place: start,
-                    count,
-                };
-            }
-            if kind == 1 {
-                return put(
-                    room,
-                    count,
-                    plain(text, names, sort, start, next.at),
-                    start,
-                    next,
-                );
-            }
-            Read::Refused {
-                number: 2,
-                place: start,
-                count,
-            }
-        }
-        Taken::Refused { number, place: p } => Read::Refused {
-            number,
-            place: p,
-            count,
-        },
+    // Behind the dot of an index.
+    #[tactic(auto, using(std::proofs::lemmas::Grind::common_steps), unfolding(grammar::specs::Grammar::dotted))]
+    pub fn dot(
+        self,
+        room: &mut [u32],
+        count: &mut usize,
+        sort: Sort,
+        from: Cursor,
+    ) -> Result<Read, Refusal>
+        ensures { seen result (room.new, count.new) ≡ dotted_of self.entry.text.now self.entry.names.now (sort_of sort) from.at (room.old, count.old) }
+    {
+        let word = from.next(self.text)?;
+        let verdict = match word.kind {
+            Kind::Number => literal(sort, word.start, word.value)?,
+            Kind::Large => return Err(Refusal::new(Reason::Arithmetic, word.start)),
+            Kind::Name => self.plain(sort, word.start, word.next.at)?,
+            _ => return Err(Refusal::new(Reason::Grammar, word.start)),
+        };
+        put(room, count, verdict, word.start, word.next)
     }
-}
 
-// An index with a dot at a place, of the name from start to end.
-pub fn point(
-    text: &[u8],
-    names: &[u16],
-    room: &mut [u32],
-    count: usize,
-    sort: u8,
-    start: usize,
-    end: usize,
-    place: usize,
-    from: Cursor,
-) -> Read
-    ensures { seen result room.new ≡ pointed_of text.now names.now sort start end place from.at (room.old, count) }
-{
-    match open(text, names, sort, start, end, place) {
-        Opened::Base { first, size } => match dot(
-            text,
-            names,
-            room,
-            count,
-            index_sort(sort),
-            from,
-        ) {
-            Read::Value {
-                value,
-                count: c,
-                next,
-            } => put(
-                room,
-                c,
-                element(sort, start, place, first, size, value),
-                start,
-                next,
-            ),
-            Read::Refused {
-                number,
-                place: p,
-                count: c,
-            } => Read::Refused {
-                number,
-                place: p,
-                count: c,
-            },
-        },
-        Opened::Bad { number, place: p } => Read::Refused {
-            number,
-            place: p,
-            count,
-        },
+    // An index with a dot at a place, of the name from start to end.
+    #[tactic(auto, using(std::proofs::lemmas::Grind::common_steps), unfolding(grammar::specs::Grammar::pointed))]
+    pub fn point(
+        self,
+        room: &mut [u32],
+        count: &mut usize,
+        sort: Sort,
+        start: usize,
+        end: usize,
+        place: usize,
+        from: Cursor,
+    ) -> Result<Read, Refusal>
+        ensures { seen result (room.new, count.new) ≡ pointed_of self.entry.text.now self.entry.names.now (sort_of sort) start end place from.at (room.old, count.old) }
+    {
+        let base = self.open(sort, start, end, place)?;
+        let index = self.dot(room, count, sort.of_index(), from)?;
+        let verdict = element(sort, start, place, base, index.value)?;
+        put(room, count, verdict, start, index.next)
     }
 }
