@@ -9,6 +9,8 @@ use lib.Seq.{take_all, take-nil}
 use lib.Dec.{eqb}
 use borrow.Author.Tests.{le-leb, lt-leb, lt-ltb, le-ltb, eq-eqb, ne_eqb}
 use Rattle.basics.specs.Choice.{pick}
+use Rattle.std.specs.Option.{unwrap_or}
+use Rattle.std.specs.Prelude.{Option}
 use Rattle.basics.proofs.Lists.{drop_next}
 use Rattle.fusetext.specs.File.{bits}
 use Rattle.fusetext.specs.Outcome.{gives, refuses}
@@ -37,7 +39,7 @@ to_end s e = take_all (length s - e) (drop e s) (simp length-drop (omega arith))
 
 -- ---- each step's outcomes, from what the code's tests say
 
-module _ (s : List ℕ) (z c : ℕ) (m : List ℕ) where
+module _ (s : List ℕ) (z : ℕ) (c : Option ℕ) (m : List ℕ) where
   pub summed_fine : fuse_sum_fits c m ≡ true → last_sum_fits s z ≡ true → gives m ≡ summed s z c m
   unfolding summed
   summed_fine f e = rw (f, e)
@@ -55,11 +57,11 @@ module _ (s : List ℕ) (z : ℕ) (seen : Seen) (cells : List ℕ) where
   unfolding whole
   whole_unsized q = rw q
 
-  pub whole_gap : seen.qf ≡ true → bits (filled seen.f cells) ≡ false → refuses 20 (length s) ≡ whole s z seen cells
+  pub whole_gap : seen.qf ≡ true → bits (filled (unwrap_or seen.f 2) cells) ≡ false → refuses 20 (length s) ≡ whole s z seen cells
   unfolding whole
   whole_gap q e = rw (q, e)
 
-  pub whole_full : seen.qf ≡ true → bits (filled seen.f cells) ≡ true → summed s z seen.c (filled seen.f cells) ≡ whole s z seen cells
+  pub whole_full : seen.qf ≡ true → bits (filled (unwrap_or seen.f 2) cells) ≡ true → summed s z seen.c (filled (unwrap_or seen.f 2) cells) ≡ whole s z seen cells
   unfolding whole
   whole_full q e = rw (q, e)
 
