@@ -9,10 +9,8 @@ use lib.ListN.{length, get_or, drop}
 use Rattle.basics.specs.Choice.{pick}
 use Rattle.basics.specs.Below.{listed}
 use Rattle.basics.proofs.Folds.{listed_length, listed_at, any_hit}
-use Rattle.gal.specs.declared.Answer.{Answer}
-use Rattle.gal.specs.declared.Verdict.{Verdict}
-use Rattle.gal.specs.declared.Verdict.TheVariants.{Shown, Refused}
-use Rattle.gal.specs.Model.{modelled, refusal, answered}
+use Rattle.gal.specs.Model.Verdict.{Shown, Refused}
+use Rattle.gal.specs.Model.{Answer, Verdict, modelled, refusal, answered}
 use Rattle.gal.specs.Refuse.{no_map, outside, callers, wrong, wrong_pins, wrong_bits, no_values}
 use Rattle.lines.specs.Decimal.{spell, decimal, refusal_line}
 use Rattle.fusetext.specs.Put.{Wrote}
