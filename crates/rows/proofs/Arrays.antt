@@ -7,7 +7,7 @@ use native.Mathlib.Omega.{arith}
 use native.Mathlib.Nat.{eq-or-lt_of_le}
 use mathlib.Core.Logic.{⊎_elim}
 use denote.Param.Members.{Mut}
-use lib.ListN.{length, get_or}
+use lib.ListN.{get_or}
 use Rattle.std.specs.Fn.{Called}
 use Rattle.std.specs.Array.{IsFromFnResult, IsFromFnResultFrom}
 use Rattle.basics.specs.Below.{listed}

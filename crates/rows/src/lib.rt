@@ -59,7 +59,9 @@ impl Row {
         ensures { result.fuses ≡ feedback_row k registered s0 v }
     {
         let x = feedback_of(registered, s0, v);
-        Row { fuses: array::from_fn(|c| feedback_fuse(k, x, c)) }
+        Row {
+            fuses: array::from_fn(|c| feedback_fuse(k, x, c)),
+        }
     }
 }
 

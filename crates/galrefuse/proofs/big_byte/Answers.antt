@@ -1,5 +1,4 @@
 use mathlib.Core.Path.{ap, ◌∙◌}
-use Prim.Native.Nat.{ℕ}
 use borrow.Author.Rules.{rules}
 use borrow.Author.Tests.{tests}
 use lib.Dec.{ltb}
@@ -11,7 +10,7 @@ use Rattle.gal.proofs.Slices.{any_by_index}
 use Rattle.galrefuse.proofs.big_byte.Goals as goal
 
 pub returns : goal.returns
-returns c = 
+returns c =
     any_from_yields_List (ltb 1) _ _ _ c.any.ensures.ran (YieldsList-from_slice c.args.map.now c.iter.ensures.rest) (λ x b q k. search (rules, tests))
     ∙ any_by_index (ltb 1) c.args.map.now
     ∙ ap (any_below (λ i. ltb 1 (get_or c.args.map.now i 0))) c.requires

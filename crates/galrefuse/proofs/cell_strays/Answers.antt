@@ -2,7 +2,6 @@ use Prim.Native.Nat.{◌+◌}
 use borrow.Author.Rules.{rules}
 use borrow.Author.Tests.{tests}
 use Rattle.std.proofs.lemmas.Iterator.{serves_from_Range}
-use Rattle.device.specs.Device.{enable_of, products_of}
 use Rattle.device.proofs.Rule.{rows_fit}
 use Rattle.gal.specs.Refuse.{strays, strays_cell}
 use Rattle.gal.proofs.Slices.{any_is}
