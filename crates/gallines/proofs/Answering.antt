@@ -35,10 +35,10 @@ answer_shown m line bits pins r a out now-out eb ep ea er h w =
     (record { room = omega arith; holds = w ∙ ap (λ (n : ℕ). listed f 61 ++ drop n out) (sym l) ∙ sym (put_front out (listed f 61)); ends = omega arith })
     (text_is m line bits pins (answer_of (Ok a)) Shown eb ep (ap answer_of (sym er) ∙ ea) refl)
 
-pub answer_refused : (m line bits pins : List ℕ) (r : Result Pins Refusal) (a : Refusal) (n : ℕ) {out now-out : List ℕ} {k : ℕ} → bits ≡ bits_of line → pins ≡ pins_of line
-    → answer_of r ≡ modelled m bits pins → r ≡ Err a → n ≡ number_of a.reason → Wrote out 0 (refusal_line n a.place) now-out k → Wrote out 0 (answer_to m line) now-out k
-answer_refused m line bits pins r a n eb ep ea er en w =
-    wrote_as w (ap (λ (x : ℕ). refusal_line x a.place) en ∙ text_is m line bits pins (answer_of (Err a)) (Refused (number_of a.reason) a.place) eb ep (ap answer_of (sym er) ∙ ea) refl)
+pub answer_refused : (m line bits pins : List ℕ) (r : Result Pins Refusal) (a : Refusal) {out now-out : List ℕ} {k : ℕ} → bits ≡ bits_of line → pins ≡ pins_of line
+    → answer_of r ≡ modelled m bits pins → r ≡ Err a → Wrote out 0 (refusal_line (number_of a.reason) a.place) now-out k → Wrote out 0 (answer_to m line) now-out k
+answer_refused m line bits pins r a eb ep ea er w =
+    wrote_as w (text_is m line bits pins (answer_of (Err a)) (Refused (number_of a.reason) a.place) eb ep (ap answer_of (sym er) ∙ ea) refl)
 
 -- ---- what is not of the form is refused 32, once the map is taken
 

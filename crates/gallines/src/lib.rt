@@ -104,7 +104,7 @@ pub fn answer(map: &[u8], line: &[u8], out: &mut [u8]) -> usize
             put_shown(&pins.shown, &pins.values, &pins.next, out);
             61
         }
-        Err(refusal) => lines::put_refusal(refusal.reason.number(), refusal.place, out, 0),
+        Err(refusal) => lines::put_refused(refusal, out, 0),
     }
 }
 
