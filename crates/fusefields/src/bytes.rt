@@ -67,13 +67,14 @@ pub fn run<F: Fn(u8) -> bool>(s: &[u8], test: F) -> usize
     s.len()
 }
 
-// The value of decimal digits, or 10,000 where it is more.
-pub fn value_of(s: &[u8]) -> u32
-    ensures { (result ≡ min 10000 (value 0 s.now)) × (result ≤ 10000) }
+// The value of decimal digits, or most where it is more.
+pub fn value_of(s: &[u8], most: usize) -> usize
+    requires { most ≤ 1000000000000000000 }
+    ensures { (result ≡ min most (value 0 s.now)) × (result ≤ most) }
 {
-    let mut n: u32 = 0;
+    let mut n = 0;
     for &b in s {
-        n = (10 * n + b.saturating_sub(b'0') as u32).min(10000);
+        n = (10 * n + b.saturating_sub(b'0') as usize).min(most);
     }
     n
 }

@@ -13,6 +13,11 @@ use bytes::{
     value_of,
 };
 
+// How many fuses a map has; and how far numbers are told apart, which is further than any fuse or any number that is asked for.
+const FUSES: usize = 5892;
+
+const CAP: usize = 10000;
+
 // What has been seen: whether QF, QP, G and L came, and the values of F and C where they came.
 #[derive(Clone, Copy)]
 pub struct Seen {
@@ -34,14 +39,14 @@ fn is_one(xs: &[u8]) -> bool
 
 // Whether xs is the number n.
 #[tactic(auto, using(std::proofs::lemmas::Grind::common_steps), unfolding(crate::specs::Fields::number_fault))]
-fn check_number(xs: &[u8], n: u32) -> Result<(), Reason>
+fn check_number(xs: &[u8], n: usize) -> Result<(), Reason>
     requires { n < 10000 }
     ensures { fault_of result ≡ number_fault xs.now n }
 {
     if xs.len() < 1 || run(xs, is_digit) < xs.len() {
         return Err(Reason::Form);
     }
-    if value_of(xs) != n {
+    if value_of(xs, CAP) != n {
         return Err(Reason::Device);
     }
     Ok(())
@@ -94,7 +99,7 @@ fn judge_qf(s: Seen, xs: &[u8]) -> Result<Seen, Reason>
     if s.qf {
         return Err(Reason::Form);
     }
-    check_number(xs, 5892)?;
+    check_number(xs, FUSES)?;
     Ok(Seen { qf: true, ..s })
 }
 
@@ -139,24 +144,23 @@ fn judge_plain(s: Seen, x: u8, xs: &[u8]) -> Result<Seen, Reason>
 
 // The contents of an L field, for the fuses from n on: they go into cells.
 #[tactic(auto, using(std::proofs::lemmas::Grind::common_steps), unfolding(crate::specs::Fields::listed_fuses))]
-fn list_fuses(n: u32, xs: &[u8], cells: &mut [u8]) -> Result<(), Reason>
+fn list_fuses(n: usize, xs: &[u8], cells: &mut [u8]) -> Result<(), Reason>
     requires { (n ≤ 10000) × (length cells.old ≡ 5892) }
     ensures { Says (listed_fuses n xs.now) (fault_of result) cells.old cells.new }
 {
     if xs.len() < 1 || run(xs, is_fuse_or_blank) < xs.len() {
         return Err(Reason::Form);
     }
-    let from = n as usize;
-    if 5892 < from + count_fuses(xs) {
+    if FUSES < n + count_fuses(xs) {
         return Err(Reason::Fuse);
     }
-    put_fuses(xs, cells, from);
+    put_fuses(xs, cells, n);
     Ok(())
 }
 
 // Blanks, and the contents.
 #[tactic(auto, using(std::proofs::lemmas::Grind::common_steps, crate::proofs::Fronts::part_past), unfolding(crate::specs::Fields::listed_rest))]
-fn list_rest(n: u32, xs: &[u8], cells: &mut [u8]) -> Result<(), Reason>
+fn list_rest(n: usize, xs: &[u8], cells: &mut [u8]) -> Result<(), Reason>
     requires { (n ≤ 10000) × (length cells.old ≡ 5892) }
     ensures { Says (listed_rest n xs.now) (fault_of result) cells.old cells.new }
 {
@@ -177,7 +181,7 @@ fn list(xs: &[u8], cells: &mut [u8]) -> Result<(), Reason>
     if n < 1 {
         return Err(Reason::Form);
     }
-    list_rest(value_of(&xs[..n]), &xs[n..], cells)
+    list_rest(value_of(&xs[..n], CAP), &xs[n..], cells)
 }
 
 // Behind an L.

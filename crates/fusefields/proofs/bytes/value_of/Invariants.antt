@@ -5,4 +5,4 @@ use Rattle.fusefields.specs.Bytes.{value}
 use Rattle.fusefields.proofs.bytes.value_of.Given as goal
 
 abbrev pub invariant-loop-b : goal.invariant-loop-b
-invariant-loop-b l = (min 10000 (value l.n (drop l.b-index l.s)) ≡ min 10000 (value 0 l.s)) × (l.n ≤ 10000)
+invariant-loop-b l = (min l.most (value l.n (drop l.b-index l.s)) ≡ min l.most (value 0 l.s)) × (l.n ≤ l.most)
