@@ -20,8 +20,7 @@ use Rattle.meaning.specs.Circuit.{out_at, circuit_of}
 use Rattle.pins.specs.Variables.{variable_pin, names_variable, mask_of}
 use Rattle.engine.specs.Table.{function}
 use Rattle.device.specs.Device.{column_of}
-use Rattle.fit.specs.Fit.{fitted, refused as noProducts}
-use Rattle.fit.specs.declared.Fitted.{Fitted}
+use Rattle.fit.specs.Fit.{Programmed, fitted, refused as noProducts}
 use Rattle.gal.specs.Map.{is_cell}
 use Rattle.behave.specs.Cells.{code, in_use, holds, Fits, Grounded, spoken}
 use Rattle.behave.specs.Cells.Kind.{unused, combinational, registered}
@@ -116,7 +115,7 @@ module _ (e : Elements) (ok : Passed e) where
           let t = sym (kind_use e k) ∙ u in
           let o = out_is e ok (23 - k) t in
           let c = cell-is k t in
-          let a = sym (ap (λ (x : Fitted). x.ok) c ∙ out_fits (out_of e k) o.small o.class) in
+          let a = sym (ap (λ (x : Programmed). x.ok) c ∙ out_fits (out_of e k) o.small o.class) in
           let b = ap on (ten_at (λ k. bit (cell_of e k).s0) 0 k h) ∙ on_bit (cell_of e k).s0 in
           let n = ten_at (λ k. (cell_of e k).n) 0 k h in
           let m = ten_at (λ k. (cell_of e k).masks) [] k h in

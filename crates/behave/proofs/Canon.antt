@@ -14,8 +14,7 @@ use Rattle.basics.proofs.Truth.{clash}
 use Rattle.sums.proofs.Named.{primes_ext}
 use Rattle.cover.specs.Sum.{over}
 use Rattle.device.specs.Device.{enable_of}
-use Rattle.fit.specs.Fit.{primes_of, fits, taken, refused, opposite, inverted, fitted}
-use Rattle.fit.specs.declared.Fitted.{Fitted}
+use Rattle.fit.specs.Fit.{Programmed, primes_of, fits, taken, refused, opposite, inverted, fitted}
 use Rattle.rows.specs.Setting.{setting_from, setting_of}
 use Rattle.gal.specs.Map.{plain_out, registered, enabled, total}
 use Rattle.gal.specs.Show.{cell_value}
@@ -97,7 +96,7 @@ module _ (c d : Cells) (a₁ : List (List ℕ)) (n₁ k₁ s₁ : List ℕ) (a�
   -- ---- the same cells, the same map
 
   fit_same : Same c d → (k : ℕ) → k < 10 → in_use (c.kind k) ≡ true
-      → ◌≡◌ {A = Fitted} (record { ok = true; s0 = on (get_or s₁ k 0); n = get_or n₁ k 0; masks = get_or a₁ k [] }) (record { ok = true; s0 = on (get_or s₂ k 0); n = get_or n₂ k 0; masks = get_or a₂ k [] })
+      → ◌≡◌ {A = Programmed} (record { ok = true; s0 = on (get_or s₁ k 0); n = get_or n₁ k 0; masks = get_or a₁ k [] }) (record { ok = true; s0 = on (get_or s₂ k 0); n = get_or n₂ k 0; masks = get_or a₂ k [] })
   fit_same e k h u =
       let q = e.kinds k h in
       sym (v.fit k h u)
@@ -118,7 +117,7 @@ module _ (c d : Cells) (a₁ : List (List ℕ)) (n₁ k₁ s₁ : List ℕ) (a�
       go false q = no_row (get_or n₁ k 0) (get_or a₁ k []) a ∙ sym (no_row (get_or n₂ k 0) (get_or a₂ k []) a)
       go true q =
           let f = fit_same e k h (sym (used_is k₁ k (c.kind k) (v.kinds_are k h)) ∙ used-same e k h ∙ q) in
-          ap₂ (λ (n : ℕ) (m : List ℕ). cell_row true n m a) (ap (λ (x : Fitted). x.n) f) (ap (λ (x : Fitted). x.masks) f)
+          ap₂ (λ (n : ℕ) (m : List ℕ). cell_row true n m a) (ap (λ (x : Programmed). x.n) f) (ap (λ (x : Programmed). x.masks) f)
 
   row_same : Same c d → (r : ℕ) → row_at a₁ n₁ k₁ r ≡ row_at a₂ n₂ k₂ r
   unfolding row_at
@@ -129,7 +128,7 @@ module _ (c d : Cells) (a₁ : List (List ℕ)) (n₁ k₁ s₁ : List ℕ) (a�
     where
       go : (b : Bool) → used k₂ k ≡ b → pick b (bit (on (get_or s₁ k 0))) 1 ≡ pick b (bit (on (get_or s₂ k 0))) 1
       go false q = refl
-      go true q = ap (λ (x : Fitted). bit x.s0) (fit_same e k h (sym (used_is k₁ k (c.kind k) (v.kinds_are k h)) ∙ used-same e k h ∙ q))
+      go true q = ap (λ (x : Programmed). bit x.s0) (fit_same e k h (sym (used_is k₁ k (c.kind k) (v.kinds_are k h)) ∙ used-same e k h ∙ q))
 
   switch-same : Same c d → (j : ℕ) → j < 20 → switch_fuse k₁ s₁ j ≡ switch_fuse k₂ s₂ j
   switch-same e j h = ap₂ (pick (eqb (j % 2) 0)) (s0-same e (j / 2) (omega arith)) (ap (λ (b : Bool). pick b 0 1) (clocked-same e (j / 2) (omega arith)))

@@ -17,8 +17,7 @@ use Rattle.cover.specs.Mask.{mask}
 use Rattle.cover.specs.Sum.{bits_of, over, padded}
 use Rattle.cover.proofs.Joining.{bits_length}
 use Rattle.device.specs.Device.{products_of}
-use Rattle.fit.specs.Fit.{primes_of, fits, taken, refused, opposite, inverted, fitted}
-use Rattle.fit.specs.declared.Fitted.{Fitted}
+use Rattle.fit.specs.Fit.{Programmed, primes_of, fits, taken, refused, opposite, inverted, fitted}
 use Rattle.cells.specs.Map.{used, clocked}
 use Rattle.behave.specs.Cells.{Kind, code, in_use, holds}
 use Rattle.behave.specs.Cells.Kind.{unused, combinational, registered}
@@ -54,7 +53,7 @@ pub record Chosen (k : ℕ) (reg start : Bool) (named : ℕ) (f : List Bool → 
   pub own : reg ≡ true → s0 ≡ start
 
 not_refused : (s0 : Bool) (n : ℕ) (masks : List ℕ) → refused ≡ record { ok = true; s0 = s0; n = n; masks = masks } → ⊥
-not_refused s0 n masks e = clash (sym (ap (λ (x : Fitted). x.ok) e))
+not_refused s0 n masks e = clash (sym (ap (λ (x : Programmed). x.ok) e))
 
 pub chosen : (k : ℕ) (reg start : Bool) (named : ℕ) (f : List Bool → Bool) (s0 : Bool) (n : ℕ) (masks : List ℕ)
     → fitted k reg start named f ≡ record { ok = true; s0 = s0; n = n; masks = masks } → Chosen k reg start named f s0 n masks
@@ -65,14 +64,14 @@ chosen k r start named f s0 n masks e = go r (fits k (primes_of named f)) (fits 
         → pick a (taken (pick r start true) (primes_of named f)) (pick r refused (pick b (taken false (primes_of named (opposite f))) refused)) ≡ record { ok = true; s0 = s0; n = n; masks = masks }
         → Chosen k r start named f s0 n masks
     go true true b ea eb h =
-        subst (λ (x : Fitted). Chosen k true start named f x.s0 x.n x.masks) h
+        subst (λ (x : Programmed). Chosen k true start named f x.s0 x.n x.masks) h
         (record { within = leb-true _ _ ea; count = refl; held = refl; own = λ q. refl })
     go false true b ea eb h =
-        subst (λ (x : Fitted). Chosen k false start named f x.s0 x.n x.masks) h
+        subst (λ (x : Programmed). Chosen k false start named f x.s0 x.n x.masks) h
         (record { within = leb-true _ _ ea; count = refl; held = refl; own = λ q. absurd (clash (sym q)) })
     go true false b ea eb h = absurd (not_refused s0 n masks h)
     go false false true ea eb h =
-        subst (λ (x : Fitted). Chosen k false start named f x.s0 x.n x.masks) h
+        subst (λ (x : Programmed). Chosen k false start named f x.s0 x.n x.masks) h
         (record { within = leb-true _ _ eb; count = refl; held = refl; own = λ q. absurd (clash (sym q)) })
     go false false false ea eb h = absurd (not_refused s0 n masks h)
 

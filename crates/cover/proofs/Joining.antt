@@ -16,9 +16,8 @@ use Rattle.sums.proofs.Named.{primes_named, filter_map}
 use Rattle.engine.specs.Table.{function, Judged}
 use Rattle.engine.proofs.Judging.{digits_of}
 use Rattle.cover.specs.Mask.{mask}
-use Rattle.cover.specs.Sum.{padded, bits_of, held, complete}
+use Rattle.cover.specs.Sum.{Found, padded, bits_of, held, complete}
 use Rattle.cover.specs.Collect.{spread_n, twos, masks, answer, collected}
-use Rattle.cover.specs.declared.Products.{Products}
 
 upto : ℕ → List ℕ
 upto zero = []
@@ -139,7 +138,7 @@ all_primes f t n named h e =
 
 answer_held : (named : ℕ) (l : List ℕ) (ps : List (List Digit)) → length l ≡ length ps → masks named l ≡ map mask ps → answer named l ≡ held ps
 answer_held named l ps e h =
-    ap₂ (λ (n : ℕ) (ms : List ℕ). pick {X = Products} (leb n 16) (record { ok = true; n = n; masks = padded ms }) (record { ok = false; n = 0; masks = replicate 16 0 })) e h
+    ap₂ (λ (n : ℕ) (ms : List ℕ). pick {X = Found} (leb n 16) (record { ok = true; n = n; masks = padded ms }) (record { ok = false; n = 0; masks = replicate 16 0 })) e h
 
 pub joined : (f t : List ℕ) (n named : ℕ) → Judged f t n → count (bits_of 22 named) ≡ n → collected t named ≡ complete named (function f)
 unfolding collected complete

@@ -32,8 +32,7 @@ use Rattle.sums.specs.Product.{Digit}
 use Rattle.engine.specs.Table.{function}
 use Rattle.cover.specs.Mask.{mask}
 use Rattle.cover.specs.Sum.{bits_of}
-use Rattle.fit.specs.Fit.{fits, taken, refused as noProducts, fitted as fitting}
-use Rattle.fit.specs.declared.Fitted.{Fitted}
+use Rattle.fit.specs.Fit.{Programmed, fits, taken, refused as noProducts, fitted as fitting}
 use Rattle.circuit.specs.StageFive.{Verdict}
 use Rattle.circuit.specs.StageFive.Verdict.{fine}
 use Rattle.pins.specs.Variables.{mask_of}
@@ -58,7 +57,7 @@ function_T = function (table_of elements_T 1)
 abbrev sum_T : List (List Digit)
 sum_T = map (spread (bits_of 22 named_T)) (primes (count (bits_of 22 named_T)) function_T)
 
-abbrev fit_with : List (List Digit) → Fitted
+abbrev fit_with : List (List Digit) → Programmed
 fit_with ps = pick (fits 0 ps) (taken true ps) noProducts
 
 fitted_T : fitted_out elements_T 1 ≡ fit_with sum_T
@@ -78,7 +77,7 @@ six_T = six_few elements_T
 
 -- ---- its map
 
-abbrev map_with : Fitted → List ℕ
+abbrev map_with : Programmed → List ℕ
 map_with t =
     map_of
     (t.masks ∷ replicate 9 (replicate 16 0))
@@ -91,7 +90,7 @@ unfolding map_for cell_of kind_of out_at first_below parts_T class_of nodes_at r
 cells_T = refl
 
 -- the two products: both plain, both inverse
-abbrev held_T : Fitted
+abbrev held_T : Programmed
 held_T = record { ok = true; s0 = true; n = 2; masks = 1572864 ∷ 6755399442628608 ∷ replicate 14 0 }
 
 sum_held : taken true sum_T ≡ held_T

@@ -9,6 +9,8 @@ use lib.Seq.{get_or-drop, length-take-le}
 use native.Mathlib.Numerals.{add-one}
 use native.Mathlib.Omega.{arith}
 use borrow.Author.Tests.{leb-true, eqb-true, eq-eqb, ne_eqb}
+use Rattle.std.specs.List.{list_all}
+use Rattle.std.proofs.Common.{◌&&◌}
 use Rattle.basics.specs.Choice.{pick}
 use Rattle.basics.proofs.Lists.{drop_next}
 use Rattle.fusetext.specs.Digits.{dec4, hex4}
@@ -27,22 +29,21 @@ pub digits_none : (s : List ℕ) (j : ℕ) → length s ≤ j → digits (drop j
 unfolding digits
 digits_none s j h = rw (drop_of_length-le s {i = j} h)
 
--- what a test over the elements says at the next one, and at the end
-pub zeros_next : (s : List ℕ) (j : ℕ) → j < length s → zeros (drop j s) ≡ pick (eqb (get_or s j 0) 0) (zeros (drop (j + 1) s)) false
+-- ---- the tests, as `all` makes them
+
+both : {a b : Bool} (t : Bool) → a ≡ b → (t && a) ≡ pick t b false
+both true e = e
+both false e = refl
+
+pub zeros_all : (s : List ℕ) → list_all (λ x. eqb x 0) s ≡ zeros s
 unfolding zeros
-zeros_next s j h = rw (drop_next s j h)
+zeros_all [] = refl
+zeros_all (x ∷ xs) = both (eqb x 0) (zeros_all xs)
 
-pub zeros_none : (s : List ℕ) (j : ℕ) → length s ≤ j → zeros (drop j s) ≡ true
-unfolding zeros
-zeros_none s j h = rw (drop_of_length-le s {i = j} h)
-
-pub bits_next : (s : List ℕ) (j : ℕ) → j < length s → bits (drop j s) ≡ pick (leb (get_or s j 0) 1) (bits (drop (j + 1) s)) false
+pub bits_test : (s : List ℕ) → list_all (λ x. leb x 1) s ≡ bits s
 unfolding bits
-bits_next s j h = rw (drop_next s j h)
-
-pub bits_none : (s : List ℕ) (j : ℕ) → length s ≤ j → bits (drop j s) ≡ true
-unfolding bits
-bits_none s j h = rw (drop_of_length-le s {i = j} h)
+bits_test [] = refl
+bits_test (x ∷ xs) = both (leb x 1) (bits_test xs)
 
 pub sum_next : (s : List ℕ) (j : ℕ) → j < length s → sum (drop j s) ≡ get_or s j 0 + sum (drop (j + 1) s)
 unfolding sum

@@ -5,7 +5,9 @@ use Prim.Native.Nat.{ℕ, ◌+◌, ◌≤◌, ◌<◌}
 use native.Mathlib.Nat.{add-zero, add_assoc, zero-add}
 use native.Mathlib.Omega.{arith}
 use lib.ListN.{length, take, drop, set, length-append, length-drop, take-append-drop, drop_of_length-le}
-use lib.Seq.{sets-eq, take_at, drop-append-add, drop-drop, length-take-le}
+use lib.Seq.{sets-eq, take_at, drop-append-add, drop-drop, length-take-le, take_all}
+use borrow.Rule.Slice.PartMut.{put_mid}
+use Rattle.std.proofs.lemmas.Slice.{put_mid-paste}
 use Rattle.fusetext.specs.Put.{put, Wrote}
 
 -- nothing written
@@ -94,3 +96,15 @@ length_wrote {a} {b} {xs} {i} {j} w = ap length w.holds ∙ length_put a i xs w.
 pub wrote_all : {a b xs : List ℕ} {j : ℕ} → Wrote a 0 xs b j → length xs ≡ length a → b ≡ xs
 wrote_all {a} {b} {xs} {j} w e =
     w.holds ∙ put_front a xs ∙ ap (λ (l : List ℕ). xs ++ l) (drop_of_length-le a {i = length xs} (omega arith)) ∙ append-nil xs
+
+-- a copy over a part of the memory
+pub wrote_over : {l xs ys : List ℕ} {at n : ℕ} → ys ≡ xs → at + length xs ≤ length l → n ≡ length xs → Wrote l at xs (put_mid at n l ys) (at + length xs)
+unfolding put
+wrote_over {l} {xs} {ys} {at} {n} e h k =
+    record {
+      room = h;
+      holds =
+          put_mid-paste at n l ys xs (length xs) e (omega arith) refl
+          ∙ ap (λ (p : List ℕ). take at l ++ p ++ drop (at + length xs) l) (take_all (length xs) xs (omega arith));
+      ends = refl;
+    }

@@ -9,14 +9,9 @@ pub fn put_text(src: &[u8], out: &mut [u8], at: usize) -> usize
     requires { at + length src.now ≤ length out.old }
     ensures { Wrote out.old at src.now out.new result }
 {
-    let mut i = 0;
-    let mut o = at;
-    while i < src.len() {
-        out[o] = src[i];
-        o += 1;
-        i += 1;
-    }
-    o
+    let end = at + src.len();
+    out[at..end].copy_from_slice(src);
+    end
 }
 
 // The fuses of src as digits.
@@ -25,12 +20,10 @@ fn put_digits(src: &[u8], out: &mut [u8], at: usize) -> usize
     requires bits { Bits src.now }
     ensures { Wrote out.old at (digits src.now) out.new result }
 {
-    let mut j = 0;
     let mut o = at;
-    while j < src.len() {
-        out[o] = 48 + src[j];
+    for &fuse in src {
+        out[o] = b'0' + fuse;
         o += 1;
-        j += 1;
     }
     o
 }
@@ -41,23 +34,20 @@ fn put_dec4(n: usize, out: &mut [u8], at: usize) -> usize
     ensures { Wrote out.old at (dec4 n) out.new result }
 {
     let text = [
-        48 + (n / 1000 % 10) as u8,
-        48 + (n / 100 % 10) as u8,
-        48 + (n / 10 % 10) as u8,
-        48 + (n % 10) as u8,
+        b'0' + (n / 1000 % 10) as u8,
+        b'0' + (n / 100 % 10) as u8,
+        b'0' + (n / 10 % 10) as u8,
+        b'0' + (n % 10) as u8,
     ];
     put_text(&text, out, at)
 }
 
-fn hex_digit(n: u32) -> u8
+#[tactic(auto, using(std::proofs::lemmas::Grind::common_steps), unfolding(crate::specs::Digits::hex_digit))]
+fn hex_digit(n: u8) -> u8
     requires { n < 16 }
     ensures { result ≡ hex_digit n }
 {
-    if n < 10 {
-        (48 + n) as u8
-    } else {
-        (55 + n) as u8
-    }
+    if n < 10 { b'0' + n } else { b'A' + (n - 10) }
 }
 
 // The low sixteen bits of n, as four digits of base sixteen.
@@ -66,10 +56,10 @@ pub fn put_hex4(n: u32, out: &mut [u8], at: usize) -> usize
     ensures { Wrote out.old at (hex4 n) out.new result }
 {
     let text = [
-        hex_digit(n / 4096 % 16),
-        hex_digit(n / 256 % 16),
-        hex_digit(n / 16 % 16),
-        hex_digit(n % 16),
+        hex_digit((n / 4096 % 16) as u8),
+        hex_digit((n / 256 % 16) as u8),
+        hex_digit((n / 16 % 16) as u8),
+        hex_digit((n % 16) as u8),
     ];
     put_text(&text, out, at)
 }

@@ -6,40 +6,25 @@ ghost use Rattle.fusetext.specs.File.{zeros, bits, sum, fuse_sum, Bits};
 pub fn is_zero(s: &[u8]) -> bool
     ensures { result ≡ zeros s.now }
 {
-    let mut j = 0;
-    while j < s.len() {
-        if s[j] != 0 {
-            return false;
-        }
-        j += 1;
-    }
-    true
+    s.iter().all(|&b| b == 0)
 }
 
 // Whether all are 0 or 1.
 pub fn is_bits(s: &[u8]) -> bool
     ensures { result ≡ bits s.now }
 {
-    let mut j = 0;
-    while j < s.len() {
-        if s[j] > 1 {
-            return false;
-        }
-        j += 1;
-    }
-    true
+    s.iter().all(|&b| b <= 1)
 }
 
 // The sum of the bytes.
+#[tactic(auto, using(crate::proofs::Files::sum_next, crate::proofs::Files::sum_none))]
 pub fn sum_of(s: &[u8]) -> u32
     requires { length s.now ≤ 65536 }
     ensures { result ≡ sum s.now }
 {
     let mut acc: u32 = 0;
-    let mut j = 0;
-    while j < s.len() {
-        acc += s[j] as u32;
-        j += 1;
+    for &b in s {
+        acc += b as u32;
     }
     acc
 }
@@ -61,12 +46,9 @@ pub fn weigh_of(s: &[u8]) -> u32
     ensures { result ≡ fuse_sum s.now }
 {
     let mut acc: u32 = 0;
-    let mut j = 0;
-    while j < s.len() {
-        let k = j;
-        j += 1;
-        if s[k] == 1 {
-            acc += weight(k);
+    for j in 0..s.len() {
+        if s[j] == 1 {
+            acc += weight(j);
         }
     }
     acc

@@ -17,8 +17,7 @@ use Rattle.trees.specs.Layout.{Elements}
 use Rattle.circuit.specs.StageFive.{first_below, stage_five}
 use Rattle.circuit.specs.StageFive.Verdict.{fine}
 use Rattle.meaning.specs.Circuit.{out_at}
-use Rattle.fit.specs.Fit.{refused as noProducts}
-use Rattle.fit.specs.declared.Fitted.{Fitted}
+use Rattle.fit.specs.Fit.{Programmed, refused as noProducts}
 use Rattle.outputs.specs.Outputs.{out_of, fitted_out, cell_of, ten}
 use Rattle.outputs.specs.Trial.{tried_of}
 use Rattle.outputs.proofs.Trying.{out_pin}
@@ -49,7 +48,7 @@ out_is e p i q h =
 
 -- ---- what cell k is fitted to among the elements before i
 
-unfoldable pub up_to : Elements → ℕ → ℕ → Fitted
+unfoldable pub up_to : Elements → ℕ → ℕ → Programmed
 up_to e i k = pick (ltb (out_of e k) i) (fitted_out e (out_of e k)) noProducts
 
 later : (x i : ℕ) → (x ≡ i → ⊥) → ltb x (i + 1) ≡ ltb x i
@@ -77,18 +76,18 @@ upto_all : (e : Elements) (k : ℕ) → up_to e 64 k ≡ cell_of e k
 unfolding up_to cell_of
 upto_all e k = refl
 
-pub record Held {A : Type 0} (e : Elements) (pr : Fitted → A) (d : A) (l : List A) (i : ℕ) : Type 0 where
+pub record Held {A : Type 0} (e : Elements) (pr : Programmed → A) (d : A) (l : List A) (i : ℕ) : Type 0 where
   pub size : length l ≡ 10
   pub says : (k : ℕ) → k < 10 → get_or l k d ≡ pr (up_to e i k)
 
-pub held_start : {A : Type 0} (e : Elements) (pr : Fitted → A) (d : A) (l : List A) → l ≡ replicate 10 (pr noProducts) → Held e pr d l 0
+pub held_start : {A : Type 0} (e : Elements) (pr : Programmed → A) (d : A) (l : List A) → l ≡ replicate 10 (pr noProducts) → Held e pr d l 0
 held_start e pr d l q =
     record {
       size = ap length q;
       says = λ k h. ap (λ x. get_or x k d) q ∙ get_or-replicate 10 k (pr noProducts) d h ∙ sym (ap pr (upto_none e k));
     }
 
-held_skip : {A : Type 0} (e : Elements) (pr : Fitted → A) (d : A) (l : List A) (i : ℕ) → ((k : ℕ) → k < 10 → out_of e k ≡ i → ⊥) → Held e pr d l i → Held e pr d l (i + 1)
+held_skip : {A : Type 0} (e : Elements) (pr : Programmed → A) (d : A) (l : List A) (i : ℕ) → ((k : ℕ) → k < 10 → out_of e k ≡ i → ⊥) → Held e pr d l i → Held e pr d l (i + 1)
 held_skip e pr d l i n c = record { size = c.size; says = λ k h. c.says k h ∙ sym (ap pr (upto_same e i k (n k h))) }
 
 -- an element that is no OUT of a cell
@@ -100,7 +99,7 @@ skipped e i h q k l r =
     (ap₂ (λ (x y : Bool). x && y) (eq-eqb (e.class i) 2 w.0) (eq-eqb (out_at e (e.pin i)) i (ap (out_at e) w.1 ∙ r)))
     ∙ q)
 
-stored : {A : Type 0} (e : Elements) (pr : Fitted → A) (d : A) (l : List A) (i : ℕ) (v : A) → i < 64 → out_at e (e.pin i) ≡ i → 14 ≤ e.pin i → e.pin i < 24
+stored : {A : Type 0} (e : Elements) (pr : Programmed → A) (d : A) (l : List A) (i : ℕ) (v : A) → i < 64 → out_at e (e.pin i) ≡ i → 14 ≤ e.pin i → e.pin i < 24
     → Held e pr d l i → v ≡ pr (fitted_out e i) → Held e pr d (set l (23 - e.pin i) v) (i + 1)
 stored e pr d l i v h q lo hi c w = record { size = length-set l (23 - e.pin i) v ∙ c.size; says = λ k g. at k g (eqb k (23 - e.pin i)) refl }
   where
@@ -127,7 +126,7 @@ fills_is e i q = go (eqb (e.class i) 2) (eqb (out_at e (e.pin i)) i) q
     go true false q = refl
     go false b q = refl
 
-pub held_more : {A : Type 0} (e : Elements) (pr : Fitted → A) (d : A) (l : List A) (i : ℕ) (v : A) → stage_five e ≡ fine → i < 64 → number_of e i ≡ 0
+pub held_more : {A : Type 0} (e : Elements) (pr : Programmed → A) (d : A) (l : List A) (i : ℕ) (v : A) → stage_five e ≡ fine → i < 64 → number_of e i ≡ 0
     → Held e pr d l i → v ≡ pr (fitted_out e i) → Held e pr d (placed e i l v) (i + 1)
 held_more {A} e pr d l i v ok h q c w = go (fills e i) (sym (fills_is e i q))
   where
@@ -154,7 +153,7 @@ ten_at f d (suc (suc (suc (suc (suc (suc (suc (suc (suc (suc k)))))))))) h = abs
 pub ten_is : {A : Type 0} (f : ℕ → A) (d : A) (k : ℕ) → k < 10 → get_or (ten f) k d ≡ f k
 ten_is = ten_at
 
-pub held_end : {A : Type 0} (e : Elements) (pr : Fitted → A) (d : A) (l : List A) (i : ℕ) → 64 ≤ i → i ≤ 64 → Held e pr d l i → l ≡ ten (λ k. pr (cell_of e k))
+pub held_end : {A : Type 0} (e : Elements) (pr : Programmed → A) (d : A) (l : List A) (i : ℕ) → 64 ≤ i → i ≤ 64 → Held e pr d l i → l ≡ ten (λ k. pr (cell_of e k))
 held_end e pr d l i h u c =
     let z : i ≡ 64 = omega (arith, h, u) in
     ext_get_or d l (ten (λ k. pr (cell_of e k))) c.size

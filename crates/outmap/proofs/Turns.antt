@@ -18,8 +18,7 @@ use Rattle.circuit.proofs.First.{hit, missed}
 use Rattle.meaning.specs.Circuit.{out_at}
 use Rattle.device.specs.Device.{products_of}
 use Rattle.sums.specs.Product.{Digit}
-use Rattle.fit.specs.Fit.{fitted, inverted, primes_of, opposite, fits, taken, refused as noProducts}
-use Rattle.fit.specs.declared.Fitted.{Fitted}
+use Rattle.fit.specs.Fit.{Programmed, fitted, inverted, primes_of, opposite, fits, taken, refused as noProducts}
 use Rattle.cells.specs.Counts.{picks}
 use Rattle.cells.specs.Map.{map_of}
 use Rattle.reach.specs.Uses.{registers}
@@ -37,7 +36,7 @@ products_small : (k : ℕ) → k < 10 → products_of k ≤ 16
 unfolding all_below products_of
 products_small k h = leb-true (products_of k) 16 (all_at (λ j. leb (products_of j) 16) 10 refl k h)
 
-taken_few : (k : ℕ) (s0 : Bool) (ps : List (List Digit)) (x : Fitted) → k < 10 → x.n ≤ 16 → (pick (fits k ps) (taken s0 ps) x).n ≤ 16
+taken_few : (k : ℕ) (s0 : Bool) (ps : List (List Digit)) (x : Programmed) → k < 10 → x.n ≤ 16 → (pick (fits k ps) (taken s0 ps) x).n ≤ 16
 taken_few k s0 ps x h w = go (fits k ps) refl
   where
     go : (b : Bool) → fits k ps ≡ b → (pick b (taken s0 ps) x).n ≤ 16

@@ -25,8 +25,7 @@ use Rattle.pins.specs.Variables.{count_of, mask_of}
 use Rattle.tables.specs.Tables.{entry_of, Tabled, tabled, table_in}
 use Rattle.tables.specs.Tables.Tabled.{table, many}
 use Rattle.engine.specs.Table.{function}
-use Rattle.fit.specs.Fit.{fitted}
-use Rattle.fit.specs.declared.Fitted.{Fitted}
+use Rattle.fit.specs.Fit.{Programmed, fitted}
 use Rattle.outputs.specs.declared.Tried.{Tried}
 use Rattle.outputs.specs.Outputs.{table_of, too_many, fitted_out}
 use Rattle.outputs.specs.Trial.{tried_of}
@@ -136,7 +135,7 @@ table_is e o = refl
 
 -- ---- what comes of it
 
-pub fitted_is : (e : Elements) (o k : ℕ) (held plain : Bool) (m : ℕ) (f : List ℕ) (t : Fitted) → k ≡ 23 - e.pin o → held ≡ registers (e.nodes o)
+pub fitted_is : (e : Elements) (o k : ℕ) (held plain : Bool) (m : ℕ) (f : List ℕ) (t : Programmed) → k ≡ 23 - e.pin o → held ≡ registers (e.nodes o)
     → plain ≡ not (inverts (e.nodes o)) → m ≡ mask_of e true o → f ≡ table_of e o → t ≡ fitted k held plain m (function f) → t ≡ fitted_out e o
 unfolding fitted_out
 fitted_is e o k held plain m f t ek eh ep em ef q = q ∙ (λ y. fitted (ek y) (eh y) (ep y) (em y) (function (ef y)))
@@ -145,12 +144,12 @@ not_many : (e : Elements) (o n : ℕ) → n ≡ count_of e true o → n < 11 →
 unfolding too_many
 not_many e o n q h = ap not (le-leb (count_of e true o) 10 (omega (arith, q)))
 
-pub tried_fits : (e : Elements) (o n x : ℕ) (t : Fitted) → n ≡ count_of e true o → n < 11 → t ≡ fitted_out e o → x ≡ pick t.ok 0 12
+pub tried_fits : (e : Elements) (o n x : ℕ) (t : Programmed) → n ≡ count_of e true o → n < 11 → t ≡ fitted_out e o → x ≡ pick t.ok 0 12
     → ◌≡◌ {A = Tried} (record { number = x; s0 = t.s0; n = t.n; masks = t.masks }) (tried_of e o)
 unfolding tried_of
 tried_fits e o n x t q h w z =
     ap (λ (j : ℕ). record { number = j; s0 = t.s0; n = t.n; masks = t.masks }) z
-    ∙ ap (λ (u : Fitted). record { number = pick u.ok 0 12; s0 = u.s0; n = u.n; masks = u.masks }) w
+    ∙ ap (λ (u : Programmed). record { number = pick u.ok 0 12; s0 = u.s0; n = u.n; masks = u.masks }) w
     ∙ sym
     (ap
     (λ (b : Bool).

@@ -10,8 +10,7 @@ use Rattle.meaning.specs.Circuit.{out_at}
 use Rattle.pins.specs.Variables.{count_of, mask_of}
 use Rattle.tables.specs.Tables.{entry_of}
 use Rattle.engine.specs.Table.{function}
-use Rattle.fit.specs.Fit.{fitted, refused as noProducts}
-use Rattle.fit.specs.declared.Fitted.{Fitted}
+use Rattle.fit.specs.Fit.{Programmed, fitted, refused as noProducts}
 use Rattle.cells.specs.Map.{map_of}
 use Rattle.behave.specs.Cells.{Kind, unused, combinational, registered, code, Cells}
 
@@ -38,7 +37,7 @@ cells_of e =
     }
 
 -- what OUT o is fitted to, in the cell of its pin
-unfoldable pub fitted_out : Elements → ℕ → Fitted
+unfoldable pub fitted_out : Elements → ℕ → Programmed
 fitted_out e o = fitted (23 - e.pin o) (registers (e.nodes o)) (not (inverts (e.nodes o))) (mask_of e true o) (function (table_of e o))
 
 -- Stage 6, each OUT in declaration order: 11 where it names more than ten pins, 12 where its complete sum doesn't fit
@@ -54,7 +53,7 @@ stage_six e =
     pick (ltb o 64) (refused (pick (too_many e o) 11 12) (e.place o)) fine
 
 -- what cell k is fitted to: nothing where it is unused
-unfoldable pub cell_of : Elements → ℕ → Fitted
+unfoldable pub cell_of : Elements → ℕ → Programmed
 cell_of e k = pick (ltb (out_of e k) 64) (fitted_out e (out_of e k)) (noProducts)
 
 -- the arrays by cell: masks, counts of products, kinds, S0

@@ -1,12 +1,9 @@
 -- `cover::width` meets its contract.
-use Rattle.cover.proofs.Naming.{start, step, end}
+use mathlib.Core.Path.{ap, ◌∙◌}
+use lib.Count.{ones}
+use Rattle.std.proofs.lemmas.Nat.{and_mask}
+use Rattle.cover.proofs.Naming.{ones_named}
 use Rattle.cover.proofs.width.Goals as goal
 
-pub loop-left-init : goal.loop-left-init
-loop-left-init c = start _
-
-pub loop-left-preserved : goal.loop-left-preserved
-loop-left-preserved c = step _ _ _ _ c.loop-left-test.true c.loop-left.invariant
-
 pub returns : goal.returns
-returns c = end _ _ _ _ c.loop-left-test.false c.loop-left.invariant
+returns c = ap ones (and_mask c.args.named 22) ∙ ones_named 22 c.args.named

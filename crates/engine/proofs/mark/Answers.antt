@@ -1,29 +1,11 @@
--- `engine::mark` meets its contract: each turn stores one entry more.
+-- `engine::mark` meets its contract: what is stored is the grade by the entries that were live at first.
+use mathlib.Core.Path.{◌∙◌}
 use native.Mathlib.Omega.{arith}
-use lib.ListN.{length-set}
-use Rattle.engine.proofs.Marking.{begin, more, finish}
+use Rattle.std.proofs.lemmas.Grind.{common_steps}
+use Rattle.engine.proofs.Marking.{same_grade}
 use Rattle.engine.proofs.mark.Goals as goal
 
-pub loop-p-init : goal.loop-p-init
-loop-p-init c = begin _ _ c.requires
-
-pub graded-v-requires : goal.graded-v-requires
-graded-v-requires c = let i = c.loop-p.invariant in record {
-  room = i.room;
-  p_bound = omega arith;
-}
-
-pub loop-p-smaller : goal.loop-p-smaller
-loop-p-smaller c = simp length-set (omega arith)
-
 pub loop-p-preserved : goal.loop-p-preserved
-loop-p-preserved c = more _ _ _ _ _ c.loop-p.invariant (omega arith) c.graded-v.ensures
-
-pub shape_of-t : goal.shape_of-t
-shape_of-t c = c.loop-p.invariant.same
-
-pub returns : goal.returns
-returns c = let i = c.loop-p.invariant in record {
-  room = i.room;
-  graded = finish _ _ _ _ i c.loop-p-test.false;
-}
+loop-p-preserved c =
+    let e = c.number.ensures ∙ c.graded.ensures ∙ same_grade _ _ _ _ c.loop-p.p c.loop-p.invariant.graded in
+    grind (arith, common_steps, e)

@@ -1,11 +1,6 @@
-use Prim.Native.Nat.{◌-◌}
-use lib.ListN.{length}
-use Rattle.engine.proofs.Marking.{Marking}
+use Rattle.engine.specs.Steps.{Room, Graded}
 use Rattle.engine.proofs.mark.Given as goal
 
 -- Assumes nothing.
 abbrev pub invariant-loop-p : goal.invariant-loop-p
-invariant-loop-p l = Marking l.initial.t l.n l.t l.p
-
-abbrev pub decreases-loop-p : goal.decreases-loop-p
-decreases-loop-p l = length l.t - l.p
+invariant-loop-p l = record { room : Room l.t l.n; graded : Graded l.initial.t l.t l.n l.p }

@@ -1,5 +1,4 @@
 use mathlib.Core.Bool.{not}
-use Prim.Native.Nat.{◌-◌}
 use lib.ListN.{length}
 use Rattle.basics.specs.Choice.{bit}
 use Rattle.basics.proofs.Folds.{Listing}
@@ -9,6 +8,3 @@ use Rattle.fit.proofs.turn.Given as goal
 -- Assumes nothing.
 abbrev pub invariant-loop-i : goal.invariant-loop-i
 invariant-loop-i l = Listing (λ j. bit (not (holds l.f j))) (length l.f) l.g l.i
-
-abbrev pub decreases-loop-i : goal.decreases-loop-i
-decreases-loop-i l = length l.f - l.i

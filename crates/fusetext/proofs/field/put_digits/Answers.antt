@@ -7,22 +7,21 @@ use Rattle.fusetext.proofs.Files.{digits_next, digits_none, length_digits}
 use Rattle.fusetext.proofs.Puts.{put_turn, put_done}
 use Rattle.fusetext.proofs.field.put_digits.Goals as goal
 
-pub loop-j-init : goal.loop-j-init
-loop-j-init c = (refl, sym (add-zero _), omega arith, refl)
+pub loop-fuse-init : goal.loop-fuse-init
+loop-fuse-init c = (refl, sym (add-zero _), refl)
 
-pub loop-j-preserved : goal.loop-j-preserved
-loop-j-preserved c =
+pub loop-fuse-preserved : goal.loop-fuse-preserved
+loop-fuse-preserved c =
     let s = c.args.src.now in (
-      put_turn _ _ _ c.loop-j.invariant.0 (digits_next s c.loop-j.j (omega arith)) (omega arith),
+      put_turn _ _ _ c.loop-fuse.invariant.0 (digits_next s c.loop-fuse.fuse-index (omega arith)) (omega arith),
       omega arith,
-      omega arith,
-      simp length-set c.loop-j.invariant.3,
+      simp length-set c.loop-fuse.invariant.2,
     )
 
 pub returns : goal.returns
 returns c =
     record {
       room = simp length_digits (omega arith);
-      holds = put_done _ _ c.loop-j.invariant.0 (digits_none c.args.src.now c.loop-j.j (omega arith));
+      holds = put_done _ _ c.loop-fuse.invariant.0 (digits_none c.args.src.now c.loop-fuse.fuse-index (omega arith));
       ends = simp length_digits (omega arith);
     }
