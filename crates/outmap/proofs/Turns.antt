@@ -1,13 +1,18 @@
 -- The turn of one element, and stage 6 as a loop over all of them. Assumes nothing.
 use mathlib.Core.Path.{◌≡◌, refl, sym, ap, ap₂, ◌∙◌, subst}
 use mathlib.Core.Bool.{Bool, true, false, not, ◌&&◌, ◌||◌}
-use mathlib.Core.List.{List, []}
+use mathlib.Core.List.{List, [], map, map-map}
 use Prim.Native.Nat.{ℕ, ◌+◌, ◌-◌, ◌≤◌, ◌<◌}
 use native.Mathlib.Omega.{arith}
 use lib.Dec.{eqb, leb, ltb}
 use borrow.Author.Tests.{eq-eqb, ne_eqb, le-ltb, lt-ltb, ltb-true, leb-true}
 use lib.ListN.{length, get_or, take, set, replicate, length-replicate}
+use Rattle.std.specs.Prelude.{Option, Some, None as Nothing, Ok, Err}
 use Rattle.basics.specs.Choice.{pick, bit}
+use Rattle.basics.specs.Refusal.{number_of as reason_number}
+use Rattle.basics.specs.declared.refusal.Reason.{Reason}
+use Rattle.basics.specs.declared.refusal.Reason.TheVariants.{Length, Grammar, Arithmetic, Name, Index, Limit, Assignment, Register, Loop, Position, Pins, Products, Memory, Question, Form, Device, Fuse, FuseSum, ByteSum, Model, Map, Value}
+use Rattle.fit.specs.declared.Fitted.{Fitted}
 use Rattle.basics.specs.Below.{all_below, listed}
 use Rattle.basics.proofs.Truth.{clash}
 use Rattle.basics.proofs.Folds.{None, none_start, none_more, all_at}
@@ -18,15 +23,15 @@ use Rattle.circuit.proofs.First.{hit, missed}
 use Rattle.meaning.specs.Circuit.{out_at}
 use Rattle.device.specs.Device.{products_of}
 use Rattle.sums.specs.Product.{Digit}
-use Rattle.fit.specs.Fit.{Programmed, fitted, inverted, primes_of, opposite, fits, taken, refused as noProducts}
+use Rattle.fit.specs.Fit.{Programmed, seen as programmed, fitted, inverted, primes_of, opposite, fits, taken, refused as noProducts}
 use Rattle.cells.specs.Counts.{picks}
 use Rattle.cells.specs.Map.{map_of}
 use Rattle.reach.specs.Uses.{registers}
 use Rattle.behave.specs.Cells.{unused, combinational, registered, code}
-use Rattle.outputs.specs.declared.Tried.{Tried}
-use Rattle.outputs.specs.Outputs.{out_of, kind_of, too_many, fitted_out, misfits, stage_six, cell_of, masks_of, counts_of, kinds_of, s0s_of, map_for}
-use Rattle.outputs.specs.Trial.{tried_of}
+use Rattle.outputs.specs.Outputs.{out_of, kind_of, too_many, fitted_out, misfits, stage_six, cell_of, masks_of, counts_of, kinds_of, s0s_of, map_for, ten}
+use Rattle.outputs.specs.Trial.{Tried, seen as seen_trial, tried_of}
 use Rattle.outputs.proofs.Trying.{out_pin}
+use Rattle.std.proofs.lemmas.List.{map-set}
 use Rattle.outmap.specs.Sixth.{fills, placed, number_of, Fitting, Few, fact_at, facts_of, after}
 use Rattle.outmap.proofs.Filling.{out_is, Held, held_start, held_more, held_end, ten_is}
 
@@ -67,11 +72,36 @@ no_out e i n =
     let q = ne_eqb (e.class i) 2 n in
     (sym (ap (λ (b : Bool). pick b (tried_of e i).number 0) q), ap (λ (b : Bool). b && (eqb (out_at e (e.pin i)) i && eqb (tried_of e i).number 0)) q)
 
-pub number_is : (e : Elements) (i : ℕ) (t : Tried) → e.class i ≡ 2 → t ≡ tried_of e i → t.number ≡ number_of e i
+-- no reason has number 0
+pub reason_positive : (r : Reason) → reason_number r ≡ 0 → ⊥
+reason_positive Length h = absurd (omega arith)
+reason_positive Grammar h = absurd (omega arith)
+reason_positive Arithmetic h = absurd (omega arith)
+reason_positive Name h = absurd (omega arith)
+reason_positive Index h = absurd (omega arith)
+reason_positive Limit h = absurd (omega arith)
+reason_positive Assignment h = absurd (omega arith)
+reason_positive Register h = absurd (omega arith)
+reason_positive Loop h = absurd (omega arith)
+reason_positive Position h = absurd (omega arith)
+reason_positive Pins h = absurd (omega arith)
+reason_positive Products h = absurd (omega arith)
+reason_positive Memory h = absurd (omega arith)
+reason_positive Question h = absurd (omega arith)
+reason_positive Form h = absurd (omega arith)
+reason_positive Device h = absurd (omega arith)
+reason_positive Fuse h = absurd (omega arith)
+reason_positive FuseSum h = absurd (omega arith)
+reason_positive ByteSum h = absurd (omega arith)
+reason_positive Model h = absurd (omega arith)
+reason_positive Map h = absurd (omega arith)
+reason_positive Value h = absurd (omega arith)
+
+number_is : (e : Elements) (i : ℕ) (t : Tried) → e.class i ≡ 2 → t ≡ tried_of e i → t.number ≡ number_of e i
 unfolding number_of
 number_is e i t c q = ap (λ (x : Tried). x.number) q ∙ sym (ap (λ (b : Bool). pick b (tried_of e i).number 0) (eq-eqb (e.class i) 2 c))
 
-pub no_number : (e : Elements) (i : ℕ) (t : Tried) → t ≡ tried_of e i → (t.number ≡ 0 → ⊥) → fills e i ≡ false
+no_number : (e : Elements) (i : ℕ) (t : Tried) → t ≡ tried_of e i → (t.number ≡ 0 → ⊥) → fills e i ≡ false
 unfolding fills
 no_number e i t q n = go (eqb (e.class i) 2) (eqb (out_at e (e.pin i)) i) (ne_eqb (tried_of e i).number 0 (λ z. n (ap (λ (x : Tried). x.number) q ∙ z)))
   where
@@ -79,6 +109,10 @@ no_number e i t q n = go (eqb (e.class i) 2) (eqb (out_at e (e.pin i)) i) (ne_eq
     go true true w = w
     go true false w = refl
     go false b w = refl
+
+-- an OUT that is refused
+pub refused_out : (e : Elements) (i : ℕ) (r : Reason) → e.class i ≡ 2 → seen_trial (Err r) ≡ tried_of e i → (reason_number r ≡ number_of e i) × (fills e i ≡ false)
+refused_out e i r c q = (number_is e i (seen_trial (Err r)) c q, no_number e i (seen_trial (Err r)) q (reason_positive r))
 
 pub not_first : (e : Elements) (i : ℕ) (b : Bool) → b ≡ eqb (out_at e (e.pin i)) i → b ≡ false → fills e i ≡ false
 unfolding fills
@@ -88,33 +122,39 @@ not_first e i b q w = ap (λ (y : Bool). eqb (e.class i) 2 && (y && eqb (tried_o
     go true = refl
     go false = refl
 
-pub first_fills : (e : Elements) (i : ℕ) (b : Bool) (t : Tried) → e.class i ≡ 2 → t ≡ tried_of e i → t.number ≡ 0 → b ≡ eqb (out_at e (e.pin i)) i → b ≡ true → fills e i ≡ true
+pub first_fills : (e : Elements) (i : ℕ) (b : Bool) (t : Fitted) → e.class i ≡ 2 → seen_trial (Ok t) ≡ tried_of e i → b ≡ eqb (out_at e (e.pin i)) i → b ≡ true → fills e i ≡ true
 unfolding fills
-first_fills e i b t c q z f w =
-    ap₂ (λ (x y : Bool). x && (y && eqb (tried_of e i).number 0)) (eq-eqb (e.class i) 2 c) (sym f ∙ w) ∙ eq-eqb (tried_of e i).number 0 (sym (ap (λ (x : Tried). x.number) q) ∙ z)
+first_fills e i b t c q f w =
+    ap₂ (λ (x y : Bool). x && (y && eqb (tried_of e i).number 0)) (eq-eqb (e.class i) 2 c) (sym f ∙ w) ∙ eq-eqb (tried_of e i).number 0 (sym (ap (λ (x : Tried). x.number) q))
 
-pub left_out : {A : Type 0} (e : Elements) (i : ℕ) (l : List A) (v : A) → fills e i ≡ false → l ≡ placed e i l v
+pub left_out : (e : Elements) (i : ℕ) (l : List Programmed) (v : Programmed) → fills e i ≡ false → l ≡ placed e i l v
 left_out e i l v q = sym (ap (λ (b : Bool). pick b (set l (23 - e.pin i) v) l) q)
 
-pub put_in : {A : Type 0} (e : Elements) (i k : ℕ) (l : List A) (u v : A) → fills e i ≡ true → k ≡ 23 - e.pin i → u ≡ v → set l k u ≡ placed e i l v
-put_in e i k l u v q z w = ap₂ (set l) z w ∙ sym (ap (λ (b : Bool). pick b (set l (23 - e.pin i) v) l) q)
+pub put_in : (e : Elements) (i k : ℕ) (l : List (Option Fitted)) (t : Option Fitted) (v : Programmed) → fills e i ≡ true → k ≡ 23 - e.pin i → programmed t ≡ v
+    → map programmed (set l k t) ≡ placed e i (map programmed l) v
+put_in e i k l t v q z w =
+    map-set programmed l k t ∙ ap₂ (set (map programmed l)) z w ∙ sym (ap (λ (b : Bool). pick b (set (map programmed l) (23 - e.pin i) v) (map programmed l)) q)
 
-fit_is : (e : Elements) (i : ℕ) → (tried_of e i).number ≡ 0
-    → tried_of e i ≡ record { number = pick (fitted_out e i).ok 0 12; s0 = (fitted_out e i).s0; n = (fitted_out e i).n; masks = (fitted_out e i).masks }
+tried_fit : (u : Programmed) (t : Fitted) (b c : Bool) → u.ok ≡ c
+    → seen_trial (Ok t)
+    ≡ pick b (record { number = 11; s0 = false; n = 0; masks = replicate 16 0 }) (record { number = pick c 0 12; s0 = u.s0; n = u.n; masks = u.masks })
+    → programmed (Some t) ≡ u
+tried_fit u t true c w q = absurd (let z : ◌≡◌ {A = ℕ} 0 11 = ap (λ (x : Tried). x.number) q in omega (arith, z))
+tried_fit u t false false w q = absurd (let z : ◌≡◌ {A = ℕ} 0 12 = ap (λ (x : Tried). x.number) q in omega (arith, z))
+tried_fit u t false true w q =
+    let a = ap (λ (x : Tried). x.s0) q in
+    let b = ap (λ (x : Tried). x.n) q in
+    let c = ap (λ (x : Tried). x.masks) q in
+    let o = sym w in
+    λ y. record { ok = o y; s0 = a y; n = b y; masks = c y }
+
+fit_is : (e : Elements) (i : ℕ) (t : Fitted) → seen_trial (Ok t) ≡ tried_of e i → programmed (Some t) ≡ fitted_out e i
 unfolding tried_of
-fit_is e i q = go (too_many e i) q
-  where
-    go : (b : Bool)
-        → (pick {X = Tried} b (record { number = 11; s0 = false; n = 0; masks = replicate 16 0 }) (record { number = pick (fitted_out e i).ok 0 12; s0 = (fitted_out e i).s0; n = (fitted_out e i).n; masks = (fitted_out e i).masks })).number ≡ 0
-        → ◌≡◌ {A = Tried}
-        (pick {X = Tried} b (record { number = 11; s0 = false; n = 0; masks = replicate 16 0 }) (record { number = pick (fitted_out e i).ok 0 12; s0 = (fitted_out e i).s0; n = (fitted_out e i).n; masks = (fitted_out e i).masks }))
-        (record { number = pick (fitted_out e i).ok 0 12; s0 = (fitted_out e i).s0; n = (fitted_out e i).n; masks = (fitted_out e i).masks })
-    go true q = absurd (omega (arith, q))
-    go false q = refl
+fit_is e i t q = tried_fit (fitted_out e i) t (too_many e i) (fitted_out e i).ok refl q
 
-pub tried_fit : (e : Elements) (i : ℕ) (t : Tried) → t ≡ tried_of e i → t.number ≡ 0
-    → t ≡ record { number = pick (fitted_out e i).ok 0 12; s0 = (fitted_out e i).s0; n = (fitted_out e i).n; masks = (fitted_out e i).masks }
-tried_fit e i t q z = q ∙ fit_is e i (sym (ap (λ (x : Tried). x.number) q) ∙ z)
+-- an OUT that is fitted
+pub fitted_is : (e : Elements) (i : ℕ) (t : Fitted) → e.class i ≡ 2 → seen_trial (Ok t) ≡ tried_of e i → (0 ≡ number_of e i) × (programmed (Some t) ≡ fitted_out e i)
+fitted_is e i t c q = (number_is e i (seen_trial (Ok t)) c q, fit_is e i t q)
 
 -- ---- all of them
 
@@ -168,36 +208,23 @@ lets_pass e i h c =
     sym (ap (λ (b : Bool). pick b (refused (pick (too_many e 64) 11 12) (e.place 64)) fine) (le-ltb 64 64 (omega arith)))
     ∙ ap (λ (o : ℕ). pick (ltb o 64) (refused (pick (too_many e o) 11 12) (e.place o)) fine) (missed (misfits e) 64 i h c)
 
-pub record Turned (e : Elements) (all : List (List ℕ)) (counts s0s : List ℕ) (i : ℕ) : Type 0 where
+pub record Turned (e : Elements) (cells : List Programmed) (i : ℕ) : Type 0 where
   pub none : None (misfits e) 64 i
-  pub masks : Held e (λ t. t.masks) [] all i
-  pub counted : Held e (λ t. t.n) 0 counts i
-  pub polar : Held e (λ t. bit t.s0) 0 s0s i
+  pub held : Held e cells i
 
-pub turned_start : (e : Elements) (all : List (List ℕ)) (counts s0s : List ℕ) → all ≡ replicate 10 (replicate 16 0) → counts ≡ replicate 10 0 → s0s ≡ replicate 10 0 → Turned e all counts s0s 0
-turned_start e all counts s0s a b c =
-    record { none = none_start (misfits e) 64; masks = held_start e (λ t. t.masks) [] all a; counted = held_start e (λ t. t.n) 0 counts b; polar = held_start e (λ t. bit t.s0) 0 s0s c }
+pub turned_start : (e : Elements) (cells : List (Option Fitted)) → cells ≡ replicate 10 Nothing → Turned e (map programmed cells) 0
+turned_start e cells a = record { none = none_start (misfits e) 64; held = held_start e (map programmed cells) (ap (map programmed) a) }
 
-pub turned_more : (e : Elements) (all all' : List (List ℕ)) (counts counts' s0s s0s' : List ℕ) (i number : ℕ) → stage_five e ≡ fine → i < 64 → Turned e all counts s0s i
-    → number ≡ number_of e i → number ≡ 0 → all' ≡ placed e i all (fitted_out e i).masks → counts' ≡ placed e i counts (fitted_out e i).n → s0s' ≡ placed e i s0s (bit (fitted_out e i).s0)
-    → Turned e all' counts' s0s' (i + 1)
-turned_more e all all' counts counts' s0s s0s' i number ok h t q z a b c =
-    let w = sym q ∙ z in
+pub turned_more : (e : Elements) (cells cells' : List Programmed) (i : ℕ) → stage_five e ≡ fine → i < 64 → Turned e cells i
+    → 0 ≡ number_of e i → cells' ≡ placed e i cells (fitted_out e i) → Turned e cells' (i + 1)
+turned_more e cells cells' i ok h t q a =
     record {
-      none = none_more (misfits e) 64 i h t.none (passes e i w);
-      masks = subst (λ (l : List (List ℕ)). Held e (λ t. t.masks) [] l (i + 1)) (sym a) (held_more e (λ t. t.masks) [] all i (fitted_out e i).masks ok h w t.masks refl);
-      counted = subst (λ (l : List ℕ). Held e (λ t. t.n) 0 l (i + 1)) (sym b) (held_more e (λ t. t.n) 0 counts i (fitted_out e i).n ok h w t.counted refl);
-      polar = subst (λ (l : List ℕ). Held e (λ t. bit t.s0) 0 l (i + 1)) (sym c) (held_more e (λ t. bit t.s0) 0 s0s i (bit (fitted_out e i).s0) ok h w t.polar refl);
+      none = none_more (misfits e) 64 i h t.none (passes e i (sym q));
+      held = subst (λ (l : List Programmed). Held e l (i + 1)) (sym a) (held_more e cells i (fitted_out e i) ok h (sym q) t.held refl);
     }
 
-pub turned_end : (e : Elements) (all : List (List ℕ)) (counts s0s : List ℕ) (i : ℕ) → 64 ≤ i → Turned e all counts s0s i → Fitting e all counts s0s
-turned_end e all counts s0s i h t =
-    let u = t.none.under in
-    record {
-      masks_are = λ z. held_end e (λ t. t.masks) [] all i h u t.masks;
-      counts_are = λ z. held_end e (λ t. t.n) 0 counts i h u t.counted;
-      s0s_are = λ z. held_end e (λ t. bit t.s0) 0 s0s i h u t.polar;
-    }
+pub turned_end : (e : Elements) (cells : List Programmed) (i : ℕ) → 64 ≤ i → Turned e cells i → Fitting e cells
+turned_end e cells i h t = let u = t.none.under in record { cells_are = λ z. held_end e cells i h u t.held }
 
 is_fine : Verdict → Bool
 is_fine fine = true
@@ -207,9 +234,15 @@ pub not_fine : (n p : ℕ) → refused n p ≡ fine → ⊥
 unfolding is_fine
 not_fine n p q = clash (sym (ap is_fine q))
 
-pub stopped : (e : Elements) (all : List (List ℕ)) (counts s0s : List ℕ) (n p : ℕ) → refused n p ≡ stage_six e → Fitting e all counts s0s
-stopped e all counts s0s n p q =
-    record { masks_are = λ z. absurd (not_fine n p (q ∙ z)); counts_are = λ z. absurd (not_fine n p (q ∙ z)); s0s_are = λ z. absurd (not_fine n p (q ∙ z)) }
+pub stopped : (e : Elements) (cells : List Programmed) (n p : ℕ) → refused n p ≡ stage_six e → Fitting e cells
+stopped e cells n p q = record { cells_are = λ z. absurd (not_fine n p (q ∙ z)) }
+
+-- ---- the arrays by cell
+
+-- what is read off each cell
+pub read_off : {A : Type 0} (e : Elements) (g : Programmed → A) (cells : List (Option Fitted)) (l : List A) → map programmed cells ≡ ten (cell_of e)
+    → l ≡ map (λ t. g (programmed t)) cells → l ≡ ten (λ k. g (cell_of e k))
+read_off e g cells l c q = q ∙ sym (map-map g programmed cells) ∙ ap (map g) c
 
 -- ---- facts
 

@@ -1,8 +1,0 @@
-use Rattle.outmap.proofs.Turns.{fact_low, fact_high}
-use Rattle.outmap.proofs.fact.Goals as goal
-
-pub returns-then-j-lt10 : goal.returns-then-j-lt10
-returns-then-j-lt10 c = fact_low _ _ _ c.if-j-lt10.true
-
-pub returns : goal.returns
-returns c = fact_high _ _ _ _ c.if-j-lt10.false c.factors.ensures
