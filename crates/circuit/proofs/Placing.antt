@@ -3,13 +3,14 @@
 use mathlib.Core.Path.{◌≡◌, refl, sym, ap, ap₂, ◌∙◌}
 use mathlib.Core.Bool.{Bool, true, false, not, ◌&&◌, ◌||◌}
 use mathlib.Core.List.{List, [], ◌∷◌, ◌++◌}
-use Prim.Native.Nat.{ℕ, suc, ◌+◌, ◌≤◌, ◌<◌}
+use Prim.Native.Nat.{ℕ, suc, ◌+◌, ◌-◌, ◌≤◌, ◌<◌}
 use native.Mathlib.Numerals.{add-one}
 use native.Mathlib.Omega.{arith}
 use lib.Dec.{eqb}
 use borrow.Author.Tests.{ne_eqb}
-use lib.ListN.{length, get_or, drop, drop_of_length-le}
+use lib.ListN.{length, get_or, take, drop, drop_of_length-le}
 use lib.Seq.{drop-cons}
+use Rattle.std.proofs.Common.{take-append-drop}
 use Rattle.trees.specs.Tree.{Tree, flat}
 use Rattle.trees.specs.Tree.Tree.{name, low, high, neg, conj, disj, differ, mux, reg, held}
 use Rattle.circuit.specs.Placed.{plain, topped, placed, plain_n, placed_n}
@@ -117,56 +118,31 @@ placed_flat (mux s a b) = end_one (flat s ++ flat a ++ flat b) 6 refl ∙ three 
 placed_flat (reg d) = end_one (flat d) 7 refl ∙ plain_flat d
 placed_flat (held e d) = end_one (flat e ++ flat d) 8 refl ∙ both e d
 
--- ---- the loop
+-- ---- the nodes before the last two, and those
 
-three_left : (ns : List ℕ) (i : ℕ) → i + 2 < length ns → drop i ns ≡ get_or ns i 0 ∷ get_or ns (i + 1) 0 ∷ get_or ns (i + 2) 0 ∷ drop (i + 3) ns
-three_left ns i h =
-    drop-cons ns i 0 (omega arith)
-    ∙ ap (λ (l : List ℕ). get_or ns i 0 ∷ l) (ap (λ (k : ℕ). drop k ns) (sym (add-one i)) ∙ drop-cons ns (i + 1) 0 (omega arith)
-    ∙ ap (λ (l : List ℕ). get_or ns (i + 1) 0 ∷ l) (ap (λ (k : ℕ). drop k ns) a ∙ drop-cons ns (i + 2) 0 h ∙ ap (λ (k : ℕ). get_or ns (i + 2) 0 ∷ drop k ns) b))
-  where
-    a : suc (i + 1) ≡ i + 2
-    a = omega arith
+placed_split : (xs : List ℕ) (a b : ℕ) → placed_n (xs ++ a ∷ b ∷ []) ≡ (plain_n xs && (not (is_reg a) || eqb b 2))
+unfolding placed_n plain_n
+placed_split [] a b = refl
+placed_split (x ∷ []) a b = ap (λ (r : Bool). r && (not (is_reg a) || eqb b 2)) (sym (and_one (not (is_reg x))))
+placed_split (x ∷ y ∷ []) a b = ap (λ (r : Bool). not (is_reg x) && r) (placed_split (y ∷ []) a b) ∙ sym (and_assoc (not (is_reg x)) (plain_n (y ∷ [])) (not (is_reg a) || eqb b 2))
+placed_split (x ∷ y ∷ z ∷ xs) a b = ap (λ (r : Bool). not (is_reg x) && r) (placed_split (y ∷ z ∷ xs) a b) ∙ sym (and_assoc (not (is_reg x)) (plain_n (y ∷ z ∷ xs)) (not (is_reg a) || eqb b 2))
 
-    b : suc (i + 2) ≡ i + 3
-    b = omega arith
+two_left : (ns : List ℕ) (n : ℕ) → n + 2 ≡ length ns → drop n ns ≡ get_or ns n 0 ∷ get_or ns (n + 1) 0 ∷ []
+two_left ns n h =
+    drop-cons ns n 0 (omega arith)
+    ∙ ap (λ (l : List ℕ). get_or ns n 0 ∷ l) (ap (λ (k : ℕ). drop k ns) (sym (add-one n)) ∙ drop-cons ns (n + 1) 0 (omega arith) ∙ ap (λ (l : List ℕ). get_or ns (n + 1) 0 ∷ l) (drop_of_length-le ns {i = suc (n + 1)} (omega arith)))
 
-next_left : (ns : List ℕ) (i : ℕ) → i + 2 < length ns → drop (i + 1) ns ≡ get_or ns (i + 1) 0 ∷ get_or ns (i + 2) 0 ∷ drop (i + 3) ns
-next_left ns i h =
-    drop-cons ns (i + 1) 0 (omega arith)
-    ∙ ap (λ (l : List ℕ). get_or ns (i + 1) 0 ∷ l) (ap (λ (k : ℕ). drop k ns) a ∙ drop-cons ns (i + 2) 0 h ∙ ap (λ (k : ℕ). get_or ns (i + 2) 0 ∷ drop k ns) b)
-  where
-    a : suc (i + 1) ≡ i + 2
-    a = omega arith
+placed_at : (ns : List ℕ) (n : ℕ) → n + 2 ≡ length ns → placed_n ns ≡ (plain_n (take n ns) && (not (is_reg (get_or ns n 0)) || eqb (get_or ns (n + 1) 0) 2))
+placed_at ns n h = ap placed_n (sym (take-append-drop n ns) ∙ ap (λ (l : List ℕ). take n ns ++ l) (two_left ns n h)) ∙ placed_split (take n ns) (get_or ns n 0) (get_or ns (n + 1) 0)
 
-    b : suc (i + 2) ≡ i + 3
-    b = omega arith
-
-pub passes : (ns : List ℕ) (i : ℕ) → i + 2 < length ns → placed_n (drop i ns) ≡ (not (is_reg (get_or ns i 0)) && placed_n (drop (i + 1) ns))
-unfolding placed_n
-passes ns i h = ap placed_n (three_left ns i h) ∙ ap (λ (l : List ℕ). not (is_reg (get_or ns i 0)) && placed_n l) (sym (next_left ns i h))
-
-pub last_two : (ns : List ℕ) (i : ℕ) → i + 2 ≡ length ns → placed_n (drop i ns) ≡ (not (is_reg (get_or ns i 0)) || eqb (get_or ns (i + 1) 0) 2)
-unfolding placed_n
-last_two ns i h =
-    ap placed_n
-    (drop-cons ns i 0 (omega arith)
-    ∙ ap (λ (l : List ℕ). get_or ns i 0 ∷ l) (ap (λ (k : ℕ). drop k ns) (sym (add-one i)) ∙ drop-cons ns (i + 1) 0 (omega arith) ∙ ap (λ (l : List ℕ). get_or ns (i + 1) 0 ∷ l) (drop_of_length-le ns {i = suc (i + 1)} (omega arith))))
+pub placed_parts : (ns : List ℕ) → 2 ≤ length ns → placed_n ns ≡ (plain_n (take (length ns - 2) ns) && (not (is_reg (get_or ns (length ns - 2) 0)) || eqb (get_or ns (length ns - 2 + 1) 0) 2))
+placed_parts ns h = placed_at ns (length ns - 2) (omega arith)
 
 pub no_two : (ns : List ℕ) → length ns < 2 → placed_n ns ≡ true
 unfolding placed_n
 no_two [] h = refl
 no_two (c ∷ []) h = refl
 no_two (c ∷ d ∷ ns) h = absurd (omega arith)
-
-pub stop : (ns : List ℕ) (i : ℕ) → i + 2 < length ns → placed_n (drop i ns) ≡ placed_n ns → is_reg (get_or ns i 0) ≡ true → false ≡ placed_n ns
-stop ns i h c e = sym (sym c ∙ passes ns i h ∙ ap (λ (b : Bool). not b && placed_n (drop (i + 1) ns)) e)
-
-pub go_on : (ns : List ℕ) (i : ℕ) → i + 2 < length ns → placed_n (drop i ns) ≡ placed_n ns → is_reg (get_or ns i 0) ≡ false → placed_n (drop (i + 1) ns) ≡ placed_n ns
-go_on ns i h c e = sym (passes ns i h ∙ ap (λ (b : Bool). not b && placed_n (drop (i + 1) ns)) e) ∙ c
-
-pub fin : (ns : List ℕ) (i last : ℕ) → i ≡ last → last + 2 ≡ length ns → placed_n (drop i ns) ≡ placed_n ns → placed_n ns ≡ (not (is_reg (get_or ns last 0)) || eqb (get_or ns (last + 1) 0) 2)
-fin ns i last e h c = sym c ∙ ap (λ (k : ℕ). placed_n (drop k ns)) e ∙ last_two ns last h
 
 -- ---- no REG at all
 

@@ -1,180 +1,115 @@
 // Stage 5: what is judged over all elements once the statements are unrolled.
 #![tactic(auto)]
 
-ghost use Rattle.std.specs.Prelude.{◌≡◌, Bool, true, false, not, ◌&&◌, ◌||◌, ℕ, ◌+◌, ◌-◌, ◌<◌, ◌≤◌, eqb, length, get_or};
-ghost use Rattle.basics.specs.Choice.{pick, bit, on};
+ghost use Rattle.std.specs.Prelude.{◌≡◌, Bool, true, false, not, ◌&&◌, ◌||◌, ℕ, ◌+◌, ◌-◌, ◌<◌, ◌≤◌, eqb, ltb, length, get_or, Some, IfSome, IsNone};
+ghost use Rattle.basics.specs.Choice.{pick, bit, on, found_or};
 ghost use Rattle.basics.specs.Below.{any_below};
-ghost use Rattle.trees.specs.Layout.{Elements, elements_of, nodes_at};
-ghost use Rattle.reach.specs.Uses.{is_reg};
+ghost use Rattle.basics.specs.Refusal.{number_of};
+ghost use Rattle.trees.specs.Layout.{Elements, elements_of, class_of, nodes_at};
 ghost use Rattle.reach.specs.Table.{cell};
 ghost use Rattle.circuit.specs.Placed.{plain_n, placed_n};
 ghost use Rattle.circuit.specs.Pins.{role_of};
+ghost use Rattle.circuit.specs.Roles.{role_number};
 ghost use Rattle.circuit.specs.StageFive.{misassigned, misplaced, looped, stands_beside, positioned_right, mispositioned, first_below, stage_five};
-ghost use Rattle.circuit.specs.Judged.{seen};
+ghost use Rattle.circuit.specs.StageFive.Verdict.{fine, refused};
+ghost use Rattle.circuit.specs.Judged.{seen, IsFirst};
 
-// What stage 5 says of a module.
-#[derive(Clone, Copy)]
-pub enum Judgement {
-    Fine,
-    Refused { number: u8, place: usize },
-}
+use basics::refusal::{Reason, Refusal};
+use trees::{Class, Node};
 
-fn is_not(n: usize, k: usize) -> bool
-    ensures { result ≡ not (eqb n k) }
+// The first of the 64 elements that passes a test.
+pub fn find<F: Fn(usize) -> bool>(test: F) -> Option<usize>
+    requires { (i : ℕ) → i < 64 → F.pre test i }
+    ensures some { IfSome result (IsFirst (F.post test)) }
+    ensures none { IsNone result → (k : ℕ) → k < 64 → F.post test k false }
 {
-    if n == k {
-        return false;
+    for i in 0..64 {
+        if test(i) {
+            return Some(i);
+        }
     }
-    true
+    None
 }
 
 // Assigned otherwise than its class wants.
+#[tactic(auto, using(trees::proofs::Classes::numbers), unfolding(crate::specs::StageFive::misassigned))]
 fn is_misassigned(parts: &[u32], i: usize) -> bool
     requires { i < 64 }
     ensures { result ≡ misassigned (elements_of parts.now) i }
 {
-    let c = reach::class_of(parts, i);
     let n = trees::at(parts, trees::TIMES_AT + i);
-    if c == 1 {
-        return is_not(n, 0);
+    match reach::class_of(parts, i) {
+        Some(Class::In) => n != 0,
+        Some(Class::Out | Class::Var) => n != 1,
+        None => false,
     }
-    let fault = is_not(n, 1);
-    if c == 2 {
-        return fault;
-    }
-    if c == 3 {
-        return fault;
-    }
-    false
 }
 
-fn first_misassigned(parts: &[u32]) -> usize
-    ensures { result ≡ first_below (misassigned (elements_of parts.now)) 64 }
+fn first_misassigned(parts: &[u32]) -> Option<usize>
+    ensures found { found_or 64 result ≡ first_below (misassigned (elements_of parts.now)) 64 }
+    ensures inside { IfSome result (λ i. i < 64) }
 {
-    let mut i: usize = 0;
-    while i < 64 {
-        if is_misassigned(parts, i) {
-            return i;
-        }
-        i += 1;
-    }
-    64
-}
-
-fn is_reg(c: usize) -> bool
-    ensures { result ≡ is_reg c }
-{
-    if c == 7 {
-        return true;
-    }
-    if c == 8 {
-        return true;
-    }
-    false
+    find(|i| is_misassigned(parts, i))
 }
 
 // No REG among the nodes.
 fn is_plain(nodes: &[u32]) -> bool
     ensures { result ≡ plain_n nodes.now }
 {
-    let mut i: usize = 0;
-    while i < nodes.len() {
-        if is_reg(nodes[i] as usize) {
+    for &c in nodes {
+        if reach::is_reg(Node::from(c)) {
             return false;
         }
-        i += 1;
     }
     true
 }
 
 // REG stands only at the top of the equation, or under one ~ there.
+#[tactic(auto, using(crate::proofs::Placing::placed_parts, crate::proofs::Placing::no_two, trees::proofs::Nodes::others))]
 fn well_placed(nodes: &[u32]) -> bool
     ensures { result ≡ placed_n nodes.now }
 {
-    let n = nodes.len();
-    if n < 2 {
+    if nodes.len() < 2 {
         return true;
     }
-    let last = n - 2;
-    let mut i: usize = 0;
-    while i < last {
-        if is_reg(nodes[i] as usize) {
-            return false;
-        }
-        i += 1;
-    }
-    if is_reg(nodes[last] as usize) {
-        if nodes[last + 1] == 2 {
-            return true;
-        }
-        return false;
-    }
-    true
-}
-
-fn var_is_plain(parts: &[u32], i: usize) -> bool
-    requires { i < 64 }
-    ensures { result ≡ plain_n (nodes_at parts.now i) }
-{
-    let first = trees::first_of(parts, i);
-    let end = trees::end_of(parts, i);
-    is_plain(&parts[first..end])
-}
-
-fn out_is_placed(parts: &[u32], i: usize) -> bool
-    requires { i < 64 }
-    ensures { result ≡ placed_n (nodes_at parts.now i) }
-{
-    let first = trees::first_of(parts, i);
-    let end = trees::end_of(parts, i);
-    well_placed(&parts[first..end])
+    let last = nodes.len() - 2;
+    is_plain(&nodes[..last])
+        && (!reach::is_reg(Node::from(nodes[last]))
+            || matches!(Node::from(nodes[last + 1]), Node::Not))
 }
 
 // A REG stands where it may not.
+#[tactic(auto, using(trees::proofs::Classes::numbers), unfolding(crate::specs::StageFive::misplaced))]
 fn is_misplaced(parts: &[u32], i: usize) -> bool
     requires { i < 64 }
     ensures { result ≡ misplaced (elements_of parts.now) i }
 {
-    let c = reach::class_of(parts, i);
-    if c == 2 {
-        return !out_is_placed(parts, i);
+    match reach::class_of(parts, i) {
+        Some(Class::Out) => !well_placed(trees::nodes_of(parts, i)),
+        Some(Class::Var) => !is_plain(trees::nodes_of(parts, i)),
+        Some(Class::In) | None => false,
     }
-    if c == 3 {
-        return !var_is_plain(parts, i);
-    }
-    false
 }
 
-fn first_misplaced(parts: &[u32]) -> usize
-    ensures { result ≡ first_below (misplaced (elements_of parts.now)) 64 }
+fn first_misplaced(parts: &[u32]) -> Option<usize>
+    ensures found { found_or 64 result ≡ first_below (misplaced (elements_of parts.now)) 64 }
+    ensures inside { IfSome result (λ i. i < 64) }
 {
-    let mut i: usize = 0;
-    while i < 64 {
-        if is_misplaced(parts, i) {
-            return i;
-        }
-        i += 1;
-    }
-    64
+    find(|i| is_misplaced(parts, i))
 }
 
 // The first element that meets itself.
-fn first_own(m: &[u8]) -> usize
+fn first_own(m: &[u8]) -> Option<usize>
     requires { length m.now ≡ 4096 }
-    ensures { result ≡ first_below (λ i. cell m.now i i) 64 }
+    ensures found { found_or 64 result ≡ first_below (λ i. cell m.now i i) 64 }
+    ensures inside { IfSome result (λ i. i < 64) }
 {
-    let mut i: usize = 0;
-    while i < 64 {
-        if m[i * 64 + i] == 1 {
-            return i;
-        }
-        i += 1;
-    }
-    64
+    find(|i| m[i * 64 + i] == 1)
 }
 
-fn first_looped(parts: &[u32]) -> usize
-    ensures { result ≡ first_below (looped (elements_of parts.now)) 64 }
+fn first_looped(parts: &[u32]) -> Option<usize>
+    ensures found { found_or 64 result ≡ first_below (looped (elements_of parts.now)) 64 }
+    ensures inside { IfSome result (λ i. i < 64) }
 {
     let mut m = [0u8; 4096];
     reach::reach(&mut m, parts);
@@ -182,28 +117,32 @@ fn first_looped(parts: &[u32]) -> usize
 }
 
 // What a pin is for.
-fn role_of(p: usize) -> usize
-    ensures { result ≡ role_of p }
+#[derive(Clone, Copy, Debug, PartialEq, Eq)]
+enum Role {
+    In,
+    Out,
+    Clock,
+}
+
+#[tactic(auto, unfolding(crate::specs::Pins::role_of))]
+fn role_of(p: usize) -> Option<Role>
+    ensures { role_number result ≡ role_of p }
 {
-    if p < 1 {
-        return 0;
+    match p {
+        1 => Some(Role::Clock),
+        2..=11 | 13 => Some(Role::In),
+        14..=23 => Some(Role::Out),
+        _ => None,
     }
-    if p < 2 {
-        return 3;
-    }
-    if p < 12 {
-        return 1;
-    }
-    if p < 13 {
-        return 0;
-    }
-    if p < 14 {
-        return 1;
-    }
-    if p < 24 {
-        return 2;
-    }
-    0
+}
+
+// Element i is an IN or an OUT.
+#[tactic(auto, using(trees::proofs::Classes::numbers))]
+fn has_pin(parts: &[u32], i: usize) -> bool
+    requires { i < 64 }
+    ensures { result ≡ eqb (class_of parts.now i) 1 || eqb (class_of parts.now i) 2 }
+{
+    matches!(reach::class_of(parts, i), Some(Class::In | Class::Out))
 }
 
 // Element j is another IN or OUT at the pin of element i.
@@ -212,129 +151,73 @@ fn is_beside(parts: &[u32], i: usize, j: usize) -> bool
     requires j_bound { j < 64 }
     ensures { result ≡ stands_beside (elements_of parts.now) i j }
 {
-    if j == i {
-        return false;
-    }
-    if trees::at(parts, trees::PIN_AT + j) == trees::at(parts, trees::PIN_AT + i) {
-        let c = reach::class_of(parts, j);
-        if c == 1 {
-            return true;
-        }
-        if c == 2 {
-            return true;
-        }
-        return false;
-    }
-    false
+    j != i
+        && trees::at(parts, trees::PIN_AT + j) == trees::at(parts, trees::PIN_AT + i)
+        && has_pin(parts, j)
 }
 
 fn is_crowded(parts: &[u32], i: usize) -> bool
     requires { i < 64 }
     ensures { result ≡ any_below (stands_beside (elements_of parts.now) i) 64 }
 {
-    let mut j: usize = 0;
-    while j < 64 {
-        if is_beside(parts, i, j) {
-            return true;
-        }
-        j += 1;
-    }
-    false
+    find(|j| is_beside(parts, i, j)).is_some()
 }
 
-// One position, of right count, at a pin of the class that is given once.
-fn is_positioned(parts: &[u32], i: usize) -> bool
-    requires { i < 64 }
+// One position, of right count, at a pin of its role that is given once.
+#[tactic(auto, unfolding(crate::specs::StageFive::positioned_right))]
+fn is_positioned(parts: &[u32], i: usize, role: Role) -> bool
+    requires i_bound { i < 64 }
+    requires role_value { class_of parts.now i ≡ role_number (Some role) }
     ensures { result ≡ positioned_right (elements_of parts.now) i }
 {
-    if trees::at(parts, trees::NAMED_AT + i) != 1 {
-        return false;
-    }
-    if trees::at(parts, trees::COUNT_AT + i) == 1 {
-        return false;
-    }
     let p = trees::at(parts, trees::PIN_AT + i);
-    if role_of(p) != reach::class_of(parts, i) {
+    if trees::at(parts, trees::NAMED_AT + i) != 1
+        || trees::at(parts, trees::COUNT_AT + i) == 1
+        || role_of(p) != Some(role)
+    {
         return false;
     }
-    if is_crowded(parts, i) {
-        return false;
-    }
-    if trees::at(parts, trees::GIVEN_AT + p) == 1 {
-        return true;
-    }
-    false
+    !is_crowded(parts, i) && trees::at(parts, trees::GIVEN_AT + p) == 1
 }
 
+#[tactic(auto, using(trees::proofs::Classes::numbers), unfolding(crate::specs::StageFive::mispositioned))]
 fn is_mispositioned(parts: &[u32], i: usize) -> bool
     requires { i < 64 }
     ensures { result ≡ mispositioned (elements_of parts.now) i }
 {
-    let c = reach::class_of(parts, i);
-    if c == 1 {
-        return !is_positioned(parts, i);
+    match reach::class_of(parts, i) {
+        Some(Class::In) => !is_positioned(parts, i, Role::In),
+        Some(Class::Out) => !is_positioned(parts, i, Role::Out),
+        Some(Class::Var) => trees::at(parts, trees::NAMED_AT + i) != 0,
+        None => false,
     }
-    if c == 2 {
-        return !is_positioned(parts, i);
-    }
-    if c == 3 {
-        return is_not(trees::at(parts, trees::NAMED_AT + i), 0);
-    }
-    false
 }
 
-fn first_mispositioned(parts: &[u32]) -> usize
-    ensures { result ≡ first_below (mispositioned (elements_of parts.now)) 64 }
+fn first_mispositioned(parts: &[u32]) -> Option<usize>
+    ensures found { found_or 64 result ≡ first_below (mispositioned (elements_of parts.now)) 64 }
+    ensures inside { IfSome result (λ i. i < 64) }
 {
-    let mut i: usize = 0;
-    while i < 64 {
-        if is_mispositioned(parts, i) {
-            return i;
-        }
-        i += 1;
-    }
-    64
+    find(|i| is_mispositioned(parts, i))
 }
 
-// Where the name of element i is declared.
-fn place_of(parts: &[u32], i: usize) -> usize
-    requires { i < 64 }
-    ensures { result ≡ get_or parts.now (2112 + i) 0 }
+// An element at fault is refused where its name is declared.
+fn pass(parts: &[u32], reason: Reason, fault: Option<usize>) -> Result<(), Refusal>
+    requires { IfSome fault (λ i. i < 64) }
+    ensures { seen result ≡ pick (ltb (found_or 64 fault) 64) (refused (number_of reason) ((elements_of parts.now).place (found_or 64 fault))) fine }
 {
-    trees::at(parts, trees::PLACE_AT + i)
+    match fault {
+        Some(i) => Err(Refusal::new(reason, trees::at(parts, trees::PLACE_AT + i))),
+        None => Ok(()),
+    }
 }
 
 // Four passes over all elements in declaration order.
-pub fn judge_all(parts: &[u32]) -> Judgement
+#[tactic(auto, unfolding(crate::specs::StageFive::stage_five))]
+pub fn judge_all(parts: &[u32]) -> Result<(), Refusal>
     ensures { seen result ≡ stage_five (elements_of parts.now) }
 {
-    let a = first_misassigned(parts);
-    if a < 64 {
-        return Judgement::Refused {
-            number: 7,
-            place: place_of(parts, a),
-        };
-    }
-    let b = first_misplaced(parts);
-    if b < 64 {
-        return Judgement::Refused {
-            number: 8,
-            place: place_of(parts, b),
-        };
-    }
-    let c = first_looped(parts);
-    if c < 64 {
-        return Judgement::Refused {
-            number: 9,
-            place: place_of(parts, c),
-        };
-    }
-    let d = first_mispositioned(parts);
-    if d < 64 {
-        return Judgement::Refused {
-            number: 10,
-            place: place_of(parts, d),
-        };
-    }
-    Judgement::Fine
+    pass(parts, Reason::Assignment, first_misassigned(parts))?;
+    pass(parts, Reason::Register, first_misplaced(parts))?;
+    pass(parts, Reason::Loop, first_looped(parts))?;
+    pass(parts, Reason::Position, first_mispositioned(parts))
 }

@@ -4,73 +4,69 @@
 ghost use Rattle.std.specs.Prelude.{◌≡◌, Bool, true, false, not, ◌&&◌, ◌||◌, List, ℕ, ◌+◌, ◌-◌, ◌<◌, ◌≤◌, length, get_or, replicate};
 ghost use Rattle.basics.specs.Choice.{pick, bit, on};
 ghost use Rattle.basics.specs.Below.{any_below};
+ghost use Rattle.trees.specs.Node.{code_of};
+ghost use Rattle.trees.specs.Class.{class_numbered};
 ghost use Rattle.trees.specs.Layout.{Elements, elements_of, class_of, nodes_at};
 ghost use Rattle.reach.specs.Uses.{is_reg, from_end, inverts, registers, keeps, replaced, remains, uses};
 ghost use Rattle.reach.specs.Reach.{via};
 ghost use Rattle.reach.specs.Table.{Matrix, cell, through, mark1, marked};
 
-fn is_reg(c: usize) -> bool
-    ensures { result ≡ is_reg c }
+use trees::{Class, Node};
+
+// A register, of one part or of two.
+pub fn is_reg(node: Node) -> bool
+    ensures { result ≡ is_reg (code_of node) }
 {
-    if c == 7 {
-        return true;
-    }
-    if c == 8 {
-        return true;
-    }
-    false
+    matches!(node, Node::Reg | Node::Held)
 }
 
-// The k-th node from the end, 0 where there is none.
-fn from_end(nodes: &[u32], k: usize) -> usize
-    ensures { result ≡ from_end nodes.now k }
+// The k-th node from the end, a constant where there is none.
+#[tactic(auto, unfolding(crate::specs::Uses::from_end))]
+fn from_end(nodes: &[u32], k: usize) -> Node
+    ensures { code_of result ≡ from_end nodes.now k }
 {
     if k < nodes.len() {
-        return nodes[nodes.len() - 1 - k] as usize;
+        Node::from(nodes[nodes.len() - 1 - k])
+    } else {
+        Node::Low
     }
-    0
 }
 
+#[tactic(auto, using(trees::proofs::Nodes::others), unfolding(crate::specs::Uses::inverts))]
 fn is_inverse(nodes: &[u32]) -> bool
     ensures { result ≡ inverts nodes.now }
 {
-    if from_end(nodes, 0) == 2 {
-        return is_reg(from_end(nodes, 1));
+    match from_end(nodes, 0) {
+        Node::Not => is_reg(from_end(nodes, 1)),
+        _ => false,
     }
-    false
 }
 
+#[tactic(auto, unfolding(crate::specs::Uses::registers))]
 fn is_register(nodes: &[u32]) -> bool
     ensures { result ≡ registers nodes.now }
 {
-    if is_reg(from_end(nodes, 0)) {
-        return true;
-    }
-    is_inverse(nodes)
+    is_reg(from_end(nodes, 0)) || is_inverse(nodes)
 }
 
+#[tactic(auto, using(trees::proofs::Nodes::others), unfolding(crate::specs::Uses::keeps))]
 fn is_keeping(nodes: &[u32]) -> bool
     ensures { result ≡ keeps nodes.now }
 {
-    let last = from_end(nodes, 0);
-    if last == 8 {
-        return true;
+    match from_end(nodes, 0) {
+        Node::Held => true,
+        Node::Not => matches!(from_end(nodes, 1), Node::Held),
+        _ => false,
     }
-    if last == 2 {
-        if from_end(nodes, 1) == 8 {
-            return true;
-        }
-        return false;
-    }
-    false
 }
 
-// The class of an element.
-pub fn class_of(parts: &[u32], i: usize) -> usize
+// The class of an element, where it is one.
+#[tactic(auto, unfolding(trees::specs::Layout::class_of))]
+pub fn class_of(parts: &[u32], i: usize) -> Option<Class>
     requires { i < 64 }
-    ensures { result ≡ class_of parts.now i }
+    ensures { result ≡ class_numbered (class_of parts.now i) }
 {
-    trees::at(parts, trees::CLASS_AT + i)
+    Class::numbered(trees::at(parts, trees::CLASS_AT + i))
 }
 
 // The equation of element i is ~REG.
@@ -78,9 +74,7 @@ pub fn inverse(parts: &[u32], i: usize) -> bool
     requires { i < 64 }
     ensures { result ≡ inverts (nodes_at parts.now i) }
 {
-    let first = trees::first_of(parts, i);
-    let end = trees::end_of(parts, i);
-    is_inverse(&parts[first..end])
+    is_inverse(trees::nodes_of(parts, i))
 }
 
 // It is REG or ~REG.
@@ -88,9 +82,7 @@ pub fn registered(parts: &[u32], i: usize) -> bool
     requires { i < 64 }
     ensures { result ≡ registers (nodes_at parts.now i) }
 {
-    let first = trees::first_of(parts, i);
-    let end = trees::end_of(parts, i);
-    is_register(&parts[first..end])
+    is_register(trees::nodes_of(parts, i))
 }
 
 // It is so with a REG of two parts.
@@ -98,55 +90,40 @@ pub fn keeping(parts: &[u32], i: usize) -> bool
     requires { i < 64 }
     ensures { result ≡ keeps (nodes_at parts.now i) }
 {
-    let first = trees::first_of(parts, i);
-    let end = trees::end_of(parts, i);
-    is_keeping(&parts[first..end])
+    is_keeping(trees::nodes_of(parts, i))
 }
 
 // Element i is replaced by its equation.
+#[tactic(auto, using(trees::proofs::Classes::numbers), unfolding(crate::specs::Uses::replaced))]
 pub fn is_replaced(parts: &[u32], i: usize) -> bool
     requires { i < 64 }
     ensures { result ≡ replaced (elements_of parts.now) i }
 {
-    let c = class_of(parts, i);
-    if c == 3 {
-        return true;
+    match class_of(parts, i) {
+        Some(Class::Var) => true,
+        Some(Class::Out) => !registered(parts, i),
+        Some(Class::In) | None => false,
     }
-    if c == 2 {
-        return !registered(parts, i);
-    }
-    false
 }
 
 // Element i remains: its pin is a variable.
+#[tactic(auto, using(trees::proofs::Classes::numbers), unfolding(crate::specs::Uses::remains))]
 pub fn is_remaining(parts: &[u32], i: usize) -> bool
     requires { i < 64 }
     ensures { result ≡ remains (elements_of parts.now) i }
 {
-    let c = class_of(parts, i);
-    if c == 1 {
-        return true;
+    match class_of(parts, i) {
+        Some(Class::In) => true,
+        Some(Class::Out) => registered(parts, i),
+        Some(Class::Var) | None => false,
     }
-    if c == 2 {
-        return registered(parts, i);
-    }
-    false
 }
 
 // Met before, or by way of another.
 fn met(x: u8, y: u8, z: u8) -> u8
     ensures { result ≡ bit (on x || (on y && on z)) }
 {
-    if x == 1 {
-        return 1;
-    }
-    if y == 1 {
-        if z == 1 {
-            return 1;
-        }
-        return 0;
-    }
-    0
+    basics::byte_of(x == 1 || (y == 1 && z == 1))
 }
 
 // One round: what is met by way of k is met.
@@ -155,11 +132,8 @@ fn round(m: &mut [u8], k: usize)
     requires k_bound { k < 64 }
     ensures { Matrix m.new (through k (cell m.old)) }
 {
-    let mut p: usize = 0;
-    while p < 4096 {
-        let v = met(m[p], m[p / 64 * 64 + k], m[k * 64 + p % 64]);
-        m[p] = v;
-        p += 1;
+    for p in 0..4096 {
+        m[p] = met(m[p], m[p / 64 * 64 + k], m[k * 64 + p % 64]);
     }
 }
 
@@ -169,12 +143,10 @@ fn names_any(m: &[u8], k: usize) -> bool
     requires k_bound { k < 64 }
     ensures { result ≡ any_below (cell m.now k) 64 }
 {
-    let mut j: usize = 0;
-    while j < 64 {
+    for j in 0..64 {
         if m[k * 64 + j] == 1 {
             return true;
         }
-        j += 1;
     }
     false
 }
@@ -187,7 +159,6 @@ fn round_by(m: &mut [u8], k: usize)
 {
     if names_any(m, k) {
         round(m, k);
-        return;
     }
 }
 
@@ -196,25 +167,21 @@ fn close(m: &mut [u8])
     requires { Matrix m.old (cell m.old) }
     ensures { Matrix m.new (via (cell m.old) 64) }
 {
-    let mut k: usize = 0;
-    while k < 64 {
+    for k in 0..64 {
         round_by(m, k);
-        k += 1;
     }
 }
 
-// Row i gets a 1 at the element that node c names.
-fn mark_one(m: &mut [u8], i: usize, c: usize)
+// Row i gets a 1 at the element that a node names.
+fn mark_one(m: &mut [u8], i: usize, node: Node)
     requires m_len { length m.old ≡ 4096 }
     requires i_bound { i < 64 }
-    ensures { m.new ≡ mark1 m.old i c }
+    ensures { m.new ≡ mark1 m.old i (code_of node) }
 {
-    if c < 9 {
-        return;
-    }
-    if c < 73 {
-        m[i * 64 + (c - 9)] = 1;
-        return;
+    if let Node::Name(k) = node {
+        if k < 64 {
+            m[i * 64 + k] = 1;
+        }
     }
 }
 
@@ -224,10 +191,8 @@ fn mark_names(m: &mut [u8], i: usize, nodes: &[u32])
     requires i_bound { i < 64 }
     ensures { m.new ≡ marked m.old i nodes.now }
 {
-    let mut k: usize = 0;
-    while k < nodes.len() {
-        mark_one(m, i, nodes[k] as usize);
-        k += 1;
+    for &c in nodes {
+        mark_one(m, i, Node::from(c));
     }
 }
 
@@ -238,9 +203,7 @@ pub fn mark_equation(m: &mut [u8], i: usize, parts: &[u32], o: usize)
     requires o_bound { o < 64 }
     ensures { m.new ≡ marked m.old i (nodes_at parts.now o) }
 {
-    let first = trees::first_of(parts, o);
-    let end = trees::end_of(parts, o);
-    mark_names(m, i, &parts[first..end]);
+    mark_names(m, i, trees::nodes_of(parts, o));
 }
 
 // Row i, where element i is replaced.
@@ -251,7 +214,6 @@ fn mark_element(m: &mut [u8], i: usize, parts: &[u32])
 {
     if is_replaced(parts, i) {
         mark_equation(m, i, parts, i);
-        return;
     }
 }
 
@@ -260,10 +222,8 @@ fn edges(m: &mut [u8], parts: &[u32])
     requires { m.old ≡ replicate 4096 0 }
     ensures { Matrix m.new (uses (elements_of parts.now)) }
 {
-    let mut i: usize = 0;
-    while i < 64 {
+    for i in 0..64 {
         mark_element(m, i, parts);
-        i += 1;
     }
 }
 

@@ -5,6 +5,6 @@ use mathlib.Core.Path.{sym, ◌∙◌}
 use Rattle.circuit.specs.StageFive.{first_below}
 use Rattle.circuit.proofs.first_looped.Goals as goal
 
-pub returns : goal.returns
+pub returns-clause-found : goal.returns-clause-found
 unfolding first_below
-returns c = c.first_own.ensures ∙ first_same _ _ 64 (λ k h. matrix_cell _ _ c.reach.ensures k k h h ∙ sym (meets_is _ k k))
+returns-clause-found c = c.first_own.ensures.found ∙ first_same _ _ 64 (λ k h. matrix_cell _ _ c.reach.ensures k k h h ∙ sym (meets_is _ k k))

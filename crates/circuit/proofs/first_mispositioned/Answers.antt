@@ -1,16 +1,6 @@
-use Rattle.circuit.proofs.First.{hit, missed}
-use Rattle.basics.proofs.Folds.{none_start, none_more}
-use mathlib.Core.Path.{sym, ◌∙◌}
+use Rattle.std.proofs.Common.{rules}
+use Rattle.circuit.proofs.First.{found}
 use Rattle.circuit.proofs.first_mispositioned.Goals as goal
 
-pub loop-i-init : goal.loop-i-init
-loop-i-init c = none_start _ _
-
-pub returns-then-is_mispositioned : goal.returns-then-is_mispositioned
-returns-then-is_mispositioned c = hit _ _ _ c.loop-i-test.true c.loop-i.invariant (sym c.is_mispositioned.ensures ∙ c.if-is_mispositioned.true)
-
-pub loop-i-preserved : goal.loop-i-preserved
-loop-i-preserved c = none_more _ _ _ c.loop-i-test.true c.loop-i.invariant (sym c.is_mispositioned.ensures ∙ c.if-is_mispositioned.false)
-
-pub returns : goal.returns
-returns c = missed _ _ _ c.loop-i-test.false c.loop-i.invariant
+pub returns-clause-found : goal.returns-clause-found
+returns-clause-found c = found _ _ (λ k b h p. search rules) c.find.ensures.some c.find.ensures.none

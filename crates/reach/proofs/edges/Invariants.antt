@@ -1,10 +1,6 @@
 use Rattle.reach.proofs.Marking.{Edging}
 use Rattle.trees.specs.Layout.{elements_of}
-use Prim.Native.Nat.{◌-◌}
 use Rattle.reach.proofs.edges.Given as goal
 
 abbrev pub invariant-loop-i : goal.invariant-loop-i
 invariant-loop-i l = Edging (elements_of l.parts) l.m l.i
-
-abbrev pub decreases-loop-i : goal.decreases-loop-i
-decreases-loop-i l = 64 - l.i

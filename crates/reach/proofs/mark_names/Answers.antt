@@ -1,8 +1,10 @@
 use Rattle.reach.proofs.Marking.{naming_more, naming_end}
+use Rattle.reach.specs.Table.{mark1}
+use mathlib.Core.Path.{ap, ◌∙◌}
 use Rattle.reach.proofs.mark_names.Goals as goal
 
-pub loop-k-preserved : goal.loop-k-preserved
-loop-k-preserved c = naming_more _ _ _ _ _ _ c.loop-k-test.true c.loop-k.invariant c.mark_one.ensures
+pub loop-c-preserved : goal.loop-c-preserved
+loop-c-preserved c = naming_more _ _ _ _ _ _ c.loop-c-test.true c.loop-c.invariant (c.mark_one.ensures ∙ ap (mark1 _ _) c.from.ensures)
 
 pub returns : goal.returns
-returns c = naming_end _ _ _ _ _ c.loop-k-test.false c.loop-k.invariant
+returns c = naming_end _ _ _ _ _ c.loop-c-test.false c.loop-c.invariant
