@@ -85,21 +85,21 @@ part_front p s n e = ap (λ (k : ℕ). take k s) e ∙ front_take p s
 pub part_past : (p : ℕ → Bool) (s : List ℕ) (n : ℕ) → n ≡ length (front p s) → take (length s - n) (drop n s) ≡ past p s
 part_past p s n e = take_all (length s - n) (drop n s) (simp length-drop (omega arith)) ∙ ap (λ (k : ℕ). drop k s) e ∙ past_drop p s
 
--- ---- a number above 10,000 stays above it, whatever digits follow
+-- ---- a number above a bound stays above it, whatever digits follow
 
-pub value_capped : (n : ℕ) (s : List ℕ) → min 10000 (value (min 10000 n) s) ≡ min 10000 (value n s)
+pub value_capped : (most n : ℕ) (s : List ℕ) → min most (value (min most n) s) ≡ min most (value n s)
 unfolding value
-value_capped n [] = omega arith
-value_capped n (x ∷ xs) =
-    let e : min 10000 (10 * min 10000 n + (x - 48)) ≡ min 10000 (10 * n + (x - 48)) = omega arith in
-    sym (value_capped (10 * min 10000 n + (x - 48)) xs)
-    ∙ ap (λ (k : ℕ). min 10000 (value k xs)) e
-    ∙ value_capped (10 * n + (x - 48)) xs
+value_capped most n [] = omega arith
+value_capped most n (x ∷ xs) =
+    let e : min most (10 * min most n + (x - 48)) ≡ min most (10 * n + (x - 48)) = omega arith in
+    sym (value_capped most (10 * min most n + (x - 48)) xs)
+    ∙ ap (λ (k : ℕ). min most (value k xs)) e
+    ∙ value_capped most (10 * n + (x - 48)) xs
 
--- a digit more of a number that is kept up to 10,000
-pub value_turn : (n : ℕ) (s : List ℕ) (j : ℕ) → j < length s
-    → min 10000 (value (min 10000 (10 * n + (get_or s j 0 - 48))) (drop (j + 1) s)) ≡ min 10000 (value n (drop j s))
-value_turn n s j h = value_capped (10 * n + (get_or s j 0 - 48)) (drop (j + 1) s) ∙ sym (ap (min 10000) (value_next n s j h))
+-- a digit more of a number that is kept up to a bound
+pub value_turn : (most n : ℕ) (s : List ℕ) (j : ℕ) → j < length s
+    → min most (value (min most (10 * n + (get_or s j 0 - 48))) (drop (j + 1) s)) ≡ min most (value n (drop j s))
+value_turn most n s j h = value_capped most (10 * n + (get_or s j 0 - 48)) (drop (j + 1) s) ∙ sym (ap (min most) (value_next n s j h))
 
 -- a fuse's code is 48 or 49
 pub fuse_code : (b : ℕ) → fuse b ≡ true → 48 ≤ b

@@ -1,89 +1,35 @@
--- The outcomes of each field's judgement, in the words of the tests that lead to them. Assumes nothing.
-use mathlib.Core.Path.{◌≡◌, refl, sym, ap, ap₂, subst, ◌∙◌}
+-- The laws of a field's judgement: a list by its first element, and a first fuse above 10,000. Assumes nothing.
+use mathlib.Core.Path.{◌≡◌, refl, sym, ap, ap₂, ◌∙◌}
 use mathlib.Core.List.{List, [], ◌∷◌}
-use mathlib.Core.Bool.{Bool, true, false}
+use mathlib.Core.Bool.{Bool, true}
 use Prim.Native.Nat.{ℕ, suc, ◌+◌, ◌-◌, ◌≤◌, ◌<◌, min}
 use native.Mathlib.Omega.{arith}
 use native.Mathlib.Decide.{dec_le}
 use lib.ListN.{length, take, drop, get_or}
 use lib.Seq.{take_all}
 use lib.Dec.{eqb}
-use borrow.Author.Tests.{le-leb, lt-leb, eq-eqb, ne_eqb, eqb-true}
+use borrow.Author.Tests.{le-leb, lt-leb, eq-eqb, eqb-true}
 use Rattle.basics.specs.Choice.{pick}
-use Rattle.fusetext.specs.Put.{Wrote}
 use Rattle.fusetext.proofs.Files.{pick_both}
 use Rattle.fusefields.specs.Bytes.{blank, digit, fuse, fuse_or_blank, front, past, value, fuses}
-use Rattle.fusefields.specs.Fields.{Listed, bad, good, need, some, listed_fuses, listed_rest, listed, fault_of, kept, Says, one, number_fault, judge_qf, judge_qp, judge_q, judge_plain, stop, go, step_of, saw_l, judge_l, judge}
+use Rattle.fusefields.specs.Fields.{good, need, some, listed_fuses, listed_rest, listed, fault_of, kept, one, judge_qf, judge_qp, judge_q, judge_plain, stop, go, step_of, saw_l, judge_l, judge}
 use Rattle.fusefields.specs.declared.Seen.{Seen}
-use Rattle.fusefields.specs.declared.Judged.TheVariants.{Good}
+use Rattle.std.specs.Prelude.{Ok}
 use Rattle.fusefields.proofs.Fronts.{fuse_code}
 
-pub says_as : {l k : Listed} {r : ℕ} {a b : List ℕ} → Says l r a b → l ≡ k → Says k r a b
-says_as {l} {k} {r} {a} {b} w e = subst (λ (x : Listed). Says x r a b) e w
+-- ---- what stands behind an L, a part at a time
 
-pub says_bad : (n : ℕ) (a : List ℕ) → Says (bad n) n a a
-says_bad n a = record { fault = refl; cells = refl }
+pub fuses_good : (n : ℕ) (xs : List ℕ) → 1 ≤ length xs → length xs ≤ length (front fuse_or_blank xs) → n + length (fuses xs) ≤ 5892 → good n (fuses xs) ≡ listed_fuses n xs
+unfolding listed_fuses
+fuses_good n xs h k o = rw (le-leb _ _ h, le-leb _ _ k, le-leb _ _ o)
 
-pub need_no : (b : Bool) (l : Listed) → b ≡ false → bad 20 ≡ need b l
-need_no b l e = rw e
-
-pub need_yes : (b : Bool) (l : Listed) → b ≡ true → l ≡ need b l
-need_yes b l e = rw e
-
--- ---- each step's outcomes, from what the code's tests say
-
-module _ (n : ℕ) (xs : List ℕ) where
-  pub fuses_empty : length xs < 1 → bad 20 ≡ listed_fuses n xs
-  unfolding listed_fuses
-  fuses_empty h = rw (lt-leb _ _ h)
-
-  pub fuses_form : 1 ≤ length xs → length (front fuse_or_blank xs) < length xs → bad 20 ≡ listed_fuses n xs
-  unfolding listed_fuses
-  fuses_form h k = rw (le-leb _ _ h, lt-leb _ _ k)
-
-  pub fuses_over : 1 ≤ length xs → length xs ≤ length (front fuse_or_blank xs) → 5892 < n + length (fuses xs) → bad 22 ≡ listed_fuses n xs
-  unfolding listed_fuses
-  fuses_over h k o = rw (le-leb _ _ h, le-leb _ _ k, lt-leb _ _ o)
-
-  pub fuses_good : 1 ≤ length xs → length xs ≤ length (front fuse_or_blank xs) → n + length (fuses xs) ≤ 5892 → good n (fuses xs) ≡ listed_fuses n xs
-  unfolding listed_fuses
-  fuses_good h k o = rw (le-leb _ _ h, le-leb _ _ k, le-leb _ _ o)
-
-  pub rest_none : length (front blank xs) < 1 → bad 20 ≡ listed_rest n xs
-  unfolding listed_rest
-  rest_none h = rw (lt-leb _ _ h)
-
-  pub rest_some : 1 ≤ length (front blank xs) → listed_fuses n (past blank xs) ≡ listed_rest n xs
-  unfolding listed_rest
-  rest_some h = rw (le-leb _ _ h)
-
-pub listed_none : (xs : List ℕ) → length (front digit xs) < 1 → bad 20 ≡ listed xs
-unfolding listed
-listed_none xs h = rw (lt-leb _ _ h)
+pub rest_some : (n : ℕ) (xs : List ℕ) → 1 ≤ length (front blank xs) → listed_fuses n (past blank xs) ≡ listed_rest n xs
+unfolding listed_rest
+rest_some n xs h = rw (le-leb _ _ h)
 
 pub listed_some : (xs : List ℕ) → 1 ≤ length (front digit xs) → listed_rest (value 0 (front digit xs)) (past digit xs) ≡ listed xs
 unfolding listed
 listed_some xs h = rw (le-leb _ _ h)
-
-pub says_good : {n r : ℕ} {fs a b : List ℕ} → Wrote a n fs b r → Says (good n fs) 0 a b
-says_good w = record { fault = refl; cells = w.holds }
-
-module _ (xs : List ℕ) (n : ℕ) where
-  pub number_none : length xs < 1 → 20 ≡ number_fault xs n
-  unfolding number_fault
-  number_none h = rw (lt-leb _ _ h)
-
-  pub number_form : 1 ≤ length xs → length (front digit xs) < length xs → 20 ≡ number_fault xs n
-  unfolding number_fault
-  number_form h k = rw (le-leb _ _ h, lt-leb _ _ k)
-
-  pub number_off : 1 ≤ length xs → length xs ≤ length (front digit xs) → n < 10000 → (min 10000 (value 0 xs) ≡ n → ⊥) → 21 ≡ number_fault xs n
-  unfolding number_fault
-  number_off h k l v = let d : value 0 xs ≡ n → ⊥ = (λ e. v (omega arith)) in rw (le-leb _ _ h, le-leb _ _ k, ne_eqb _ _ d)
-
-  pub number_fine : 1 ≤ length xs → length xs ≤ length (front digit xs) → n < 10000 → min 10000 (value 0 xs) ≡ n → 0 ≡ number_fault xs n
-  unfolding number_fault
-  number_fine h k l v = let d : value 0 xs ≡ n = omega arith in rw (le-leb _ _ h, le-leb _ _ k, eq-eqb _ _ d)
 
 -- ---- a list by its first element, as the code takes it apart
 
@@ -105,16 +51,16 @@ unfolding judge
 judge_cons s [] cells h = absurd (omega arith)
 judge_cons s (x ∷ xs) cells h = ap (λ (l : List ℕ). pick (eqb x 76) (judge_l s l cells) (step_of (judge_plain s x l) cells)) (tail_cons x xs)
 
-pub judge_q_empty : (s : Seen) (xs : List ℕ) → length xs < 1 → Good s ≡ judge_q s xs
+pub judge_q_empty : (s : Seen) (xs : List ℕ) → length xs < 1 → Ok s ≡ judge_q s xs
 unfolding judge_q
 judge_q_empty s [] h = refl
 judge_q_empty s (x ∷ xs) h = absurd (omega arith)
 
 pub judge_q_cons : (s : Seen) (xs : List ℕ) → 1 ≤ length xs
-    → judge_q s xs ≡ pick (eqb (get_or xs 0 0) 70) (judge_qf s (tail xs)) (pick (eqb (get_or xs 0 0) 80) (judge_qp s (tail xs)) (Good s))
+    → judge_q s xs ≡ pick (eqb (get_or xs 0 0) 70) (judge_qf s (tail xs)) (pick (eqb (get_or xs 0 0) 80) (judge_qp s (tail xs)) (Ok s))
 unfolding judge_q
 judge_q_cons s [] h = absurd (omega arith)
-judge_q_cons s (x ∷ xs) h = ap (λ (l : List ℕ). pick (eqb x 70) (judge_qf s l) (pick (eqb x 80) (judge_qp s l) (Good s))) (tail_cons x xs)
+judge_q_cons s (x ∷ xs) h = ap (λ (l : List ℕ). pick (eqb x 70) (judge_qf s l) (pick (eqb x 80) (judge_qp s l) (Ok s))) (tail_cons x xs)
 
 pub one_length : (xs : List ℕ) → one xs ≡ true → length xs ≡ 1
 unfolding one

@@ -1,5 +1,5 @@
 -- Kinds of bytes, the longest front of one kind, and numbers (document 01, 'The fuse file', Reading). Assumes nothing.
-use Rattle.std.specs.Prelude.{List, [], ◌∷◌, Bool, true, false, not, ℕ, ◌+◌, ◌-◌, ◌*◌, get_or, leb, ltb, eqb}
+use Rattle.std.specs.Prelude.{◌≡◌, ◌<◌, length, List, [], ◌∷◌, Bool, true, false, not, ℕ, ◌+◌, ◌-◌, ◌*◌, get_or, leb, ltb, eqb}
 use Rattle.basics.specs.Choice.{pick}
 
 -- decision 37: the four blanks of the language, here by their codes: space 32, tab 9, CR 13, LF 10
@@ -29,15 +29,6 @@ not_star b = not (eqb b 42)
 unfoldable pub not_end : ℕ → Bool
 not_end b = not (eqb b 3)
 
--- the kinds by number, for the one function that finds the end of a front
-abbrev pub kind : ℕ → ℕ → Bool
-kind k b =
-    pick (eqb k 0) (blank b)
-    (pick (eqb k 1) (digit b)
-    (pick (eqb k 2) (fuse_or_blank b)
-    (pick (eqb k 3) (hexit b)
-    (pick (eqb k 4) (not_star b) (not_end b)))))
-
 -- the longest front whose bytes all pass, and what is behind it
 unfoldable pub front : (ℕ → Bool) → List ℕ → List ℕ
 front p [] = []
@@ -46,6 +37,14 @@ front p (x ∷ xs) = pick (p x) (x ∷ front p xs) []
 unfoldable pub past : (ℕ → Bool) → List ℕ → List ℕ
 past p [] = []
 past p (x ∷ xs) = pick (p x) (past p xs) (x ∷ xs)
+
+-- a test of bytes, known by what it may answer, computes p
+abbrev pub Computes : (ℕ → Bool → Type 0) → (ℕ → Bool) → Type 0
+Computes R p = (x : ℕ) (b : Bool) → x < 256 → R x b → b ≡ p x
+
+-- n is the length of the longest front that passes such a test, whatever it computes
+abbrev pub CountsFront : (ℕ → Bool → Type 0) → List ℕ → ℕ → Type 0
+CountsFront R s n = (p : ℕ → Bool) → Computes R p → n ≡ length (front p s)
 
 -- decision 36: the number that decimal digits spell, behind others that spell n, however large. The digit 0 has the code 48
 unfoldable pub value : ℕ → List ℕ → ℕ

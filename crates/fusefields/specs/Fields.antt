@@ -1,11 +1,11 @@
 -- What one field of a fuse file says (document 01, 'The fuse file', Reading). Assumes nothing.
-use Rattle.std.specs.Prelude.{◌≡◌, List, [], ◌∷◌, Bool, true, false, not, ℕ, ◌+◌, ◌-◌, length, get_or, leb, ltb, eqb}
+use Rattle.std.specs.Prelude.{◌≡◌, List, [], ◌∷◌, Bool, true, false, not, ℕ, ◌+◌, ◌-◌, length, get_or, leb, ltb, eqb, Some, None, is_none, Result, Ok, Err}
 use Rattle.basics.specs.Choice.{pick}
+use Rattle.basics.specs.Refusal.{number_of}
+use Rattle.basics.specs.declared.refusal.Reason.{Reason}
 use Rattle.fusetext.specs.Put.{put}
 use Rattle.fusefields.specs.Bytes.{blank, digit, fuse, fuse_or_blank, hexit, front, past, value, hex4_of, fuses}
 use Rattle.fusefields.specs.declared.Seen.{Seen}
-use Rattle.fusefields.specs.declared.Judged.{Judged}
-use Rattle.fusefields.specs.declared.Judged.TheVariants.{Good, Bad}
 
 -- whether a list has an element; whether all of it passes
 abbrev pub some : List ℕ → Bool
@@ -55,13 +55,22 @@ pub record Says (l : Listed) (r : ℕ) (before after : List ℕ) : Type 0 where
 
 -- ---- the other fields, behind their letters
 
--- nothing seen: 2 stands for no F, 65,536 for no C
+-- nothing seen
 abbrev pub unseen : Seen
-unseen = record { qf = false; qp = false; g = false; l = false; f = 2; c = 65536 }
+unseen = record { qf = false; qp = false; g = false; l = false; f = None; c = None }
+
+-- what a field does: what has been seen then, or a refusal's number
+abbrev pub Judged : Type 0
+Judged = Result Seen ℕ
+
+-- the same of what a function that judges a field answers
+abbrev pub judged : Result Seen Reason → Judged
+judged (Ok s) = Ok s
+judged (Err r) = Err (number_of r)
 
 -- the refusal 20 where a test fails
 abbrev pub must : Bool → Judged → Judged
-must b x = pick b x (Bad 20)
+must b x = pick b x (Err 20)
 
 -- one 0 or 1 alone
 unfoldable pub one : List ℕ → Bool
@@ -74,34 +83,34 @@ number_fault xs n = pick (some xs) (pick (only digit xs) (pick (eqb (value 0 xs)
 -- Reading, F: one of them is taken, between QF and the first L, with one 0 or 1
 unfoldable pub judge_f : Seen → List ℕ → Judged
 judge_f s xs =
-    must s.qf (must (eqb s.f 2) (must (not s.l) (must (one xs)
-    (Good (record { qf = s.qf; qp = s.qp; g = s.g; l = s.l; f = get_or xs 0 0 - 48; c = s.c })))))
+    must s.qf (must (is_none s.f) (must (not s.l) (must (one xs)
+    (Ok (record { qf = s.qf; qp = s.qp; g = s.g; l = s.l; f = Some (get_or xs 0 0 - 48); c = s.c })))))
 
 -- Reading, G: one of them is taken, with one 0 or 1 that nothing remembers
 unfoldable pub judge_g : Seen → List ℕ → Judged
-judge_g s xs = must (not s.g) (must (one xs) (Good (record { qf = s.qf; qp = s.qp; g = true; l = s.l; f = s.f; c = s.c })))
+judge_g s xs = must (not s.g) (must (one xs) (Ok (record { qf = s.qf; qp = s.qp; g = true; l = s.l; f = s.f; c = s.c })))
 
 -- Reading, C: one of them is taken, with four hex digits
 unfoldable pub judge_c : Seen → List ℕ → Judged
 judge_c s xs =
-    must (eqb s.c 65536) (must (eqb (length xs) 4) (must (only hexit xs)
-    (Good (record { qf = s.qf; qp = s.qp; g = s.g; l = s.l; f = s.f; c = hex4_of xs }))))
+    must (is_none s.c) (must (eqb (length xs) 4) (must (only hexit xs)
+    (Ok (record { qf = s.qf; qp = s.qp; g = s.g; l = s.l; f = s.f; c = Some (hex4_of xs) }))))
 
 -- Reading, QF and QP: one of each is taken (decision 35: a second is 20, whatever its number), and its number is 5892 or 24
 unfoldable pub judge_qf : Seen → List ℕ → Judged
 judge_qf s xs =
     must (not s.qf) (pick (eqb (number_fault xs 5892) 0)
-    (Good (record { qf = true; qp = s.qp; g = s.g; l = s.l; f = s.f; c = s.c })) (Bad (number_fault xs 5892)))
+    (Ok (record { qf = true; qp = s.qp; g = s.g; l = s.l; f = s.f; c = s.c })) (Err (number_fault xs 5892)))
 
 unfoldable pub judge_qp : Seen → List ℕ → Judged
 judge_qp s xs =
     must (not s.qp) (pick (eqb (number_fault xs 24) 0)
-    (Good (record { qf = s.qf; qp = true; g = s.g; l = s.l; f = s.f; c = s.c })) (Bad (number_fault xs 24)))
+    (Ok (record { qf = s.qf; qp = true; g = s.g; l = s.l; f = s.f; c = s.c })) (Err (number_fault xs 24)))
 
 -- decision 34: Q and then F (70) or P (80); any other Q is skipped
 unfoldable pub judge_q : Seen → List ℕ → Judged
-judge_q s [] = Good s
-judge_q s (x ∷ xs) = pick (eqb x 70) (judge_qf s xs) (pick (eqb x 80) (judge_qp s xs) (Good s))
+judge_q s [] = Ok s
+judge_q s (x ∷ xs) = pick (eqb x 70) (judge_qf s xs) (pick (eqb x 80) (judge_qp s xs) (Ok s))
 
 -- a field that is no L, by its letter: C 67, F 70, G 71, Q 81; any other capital letter says nothing to us, and no other byte begins a field
 unfoldable pub judge_plain : Seen → ℕ → List ℕ → Judged
@@ -110,7 +119,7 @@ judge_plain s x xs =
     (pick (eqb x 70) (judge_f s xs)
     (pick (eqb x 71) (judge_g s xs)
     (pick (eqb x 81) (judge_q s xs)
-    (pick (ltb x 65) (Bad 20) (pick (leb x 90) (Good s) (Bad 20))))))
+    (pick (ltb x 65) (Err 20) (pick (leb x 90) (Ok s) (Err 20))))))
 
 -- What a field does: a refusal's number, or what has been seen then and the fuses.
 pub data Step : Type 0 where
@@ -118,8 +127,8 @@ pub data Step : Type 0 where
   go : Seen → List ℕ → Step
 
 abbrev pub step_of : Judged → List ℕ → Step
-step_of (Good s) cells = go s cells
-step_of (Bad n) cells = stop n
+step_of (Ok s) cells = go s cells
+step_of (Err n) cells = stop n
 
 -- an L has been seen
 abbrev pub saw_l : Seen → Seen

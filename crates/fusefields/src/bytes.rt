@@ -1,145 +1,99 @@
 // Kinds of bytes, and the loops over them.
 ghost use Rattle.std.specs.Prelude.{◌≡◌, ℕ, ◌+◌, ◌-◌, ◌≤◌, ◌<◌, min, length};
-ghost use Rattle.fusefields.specs.Bytes.{blank, digit, fuse, fuse_or_blank, hexit, not_star, not_end, kind, front, value, hex_of, hex4_of, fuses};
+ghost use Rattle.fusefields.specs.Bytes.{blank, digit, fuse, fuse_or_blank, hexit, not_star, not_end, CountsFront, value, hex_of, hex4_of, fuses};
 ghost use Rattle.fusetext.specs.Put.{Wrote};
 
-fn is_blank(b: u8) -> bool
+#[tactic(auto, using(std::proofs::lemmas::Grind::common_steps), unfolding(crate::specs::Bytes::blank))]
+pub fn is_blank(b: u8) -> bool
     ensures { result ≡ blank b }
 {
-    if b == 32 {
-        return true;
-    }
-    if b == 9 {
-        return true;
-    }
-    if b == 13 {
-        return true;
-    }
-    b == 10
+    matches!(b, b' ' | b'\t' | b'\r' | b'\n')
 }
 
-fn is_digit(b: u8) -> bool
+#[tactic(auto, using(std::proofs::lemmas::Grind::common_steps), unfolding(crate::specs::Bytes::digit))]
+pub fn is_digit(b: u8) -> bool
     ensures { result ≡ digit b }
 {
-    if b < 48 {
-        return false;
-    }
-    b <= 57
+    matches!(b, b'0'..=b'9')
 }
 
+#[tactic(auto, using(std::proofs::lemmas::Grind::common_steps), unfolding(crate::specs::Bytes::fuse))]
 pub fn is_fuse(b: u8) -> bool
     ensures { result ≡ fuse b }
 {
-    if b == 48 {
-        return true;
-    }
-    b == 49
+    matches!(b, b'0' | b'1')
 }
 
-fn is_fuse_or_blank(b: u8) -> bool
+#[tactic(auto, using(std::proofs::lemmas::Grind::common_steps), unfolding(crate::specs::Bytes::fuse_or_blank))]
+pub fn is_fuse_or_blank(b: u8) -> bool
     ensures { result ≡ fuse_or_blank b }
 {
-    if is_fuse(b) {
-        return true;
-    }
-    is_blank(b)
+    is_fuse(b) || is_blank(b)
 }
 
-fn is_hexit(b: u8) -> bool
+#[tactic(auto, using(std::proofs::lemmas::Grind::common_steps), unfolding(crate::specs::Bytes::hexit, crate::specs::Bytes::digit))]
+pub fn is_hexit(b: u8) -> bool
     ensures { result ≡ hexit b }
 {
-    if is_digit(b) {
-        return true;
-    }
-    if b < 65 {
-        return false;
-    }
-    if b <= 70 {
-        return true;
-    }
-    if b < 97 {
-        return false;
-    }
-    b <= 102
+    matches!(b, b'0'..=b'9' | b'A'..=b'F' | b'a'..=b'f')
 }
 
-// Whether b is of the kind k.
-fn is(k: u8, b: u8) -> bool
-    ensures { result ≡ kind k b }
+// Whether b is no `*`, and whether it is no byte 3.
+#[tactic(auto, using(std::proofs::lemmas::Grind::common_steps), unfolding(crate::specs::Bytes::not_star))]
+pub fn is_not_star(b: u8) -> bool
+    ensures { result ≡ not_star b }
 {
-    if k == 0 {
-        return is_blank(b);
-    }
-    if k == 1 {
-        return is_digit(b);
-    }
-    if k == 2 {
-        return is_fuse_or_blank(b);
-    }
-    if k == 3 {
-        return is_hexit(b);
-    }
-    if k == 4 {
-        return b != 42;
-    }
+    b != b'*'
+}
+
+#[tactic(auto, using(std::proofs::lemmas::Grind::common_steps), unfolding(crate::specs::Bytes::not_end))]
+pub fn is_not_end(b: u8) -> bool
+    ensures { result ≡ not_end b }
+{
     b != 3
 }
 
-// How many bytes at the front of s are of the kind k.
-pub fn run(k: u8, s: &[u8]) -> usize
-    ensures { (result ≡ length (front (kind k) s.now)) × (result ≤ length s.now) }
+// How many bytes at the front of s pass the test.
+pub fn run<F: Fn(u8) -> bool>(s: &[u8], test: F) -> usize
+    requires { F.IsAlwaysCallable test }
+    ensures count { CountsFront (F.post test) s.now result }
+    ensures upper_bound { result ≤ length s.now }
 {
-    let mut j = 0;
-    while j < s.len() {
-        if !is(k, s[j]) {
+    for j in 0..s.len() {
+        if !test(s[j]) {
             return j;
         }
-        j += 1;
     }
-    j
+    s.len()
 }
 
-// b - k, or 0 where k is more.
-fn less(b: u8, k: u8) -> u8
-    ensures { result ≡ b - k }
+// The value of decimal digits, or most where it is more.
+pub fn value_of(s: &[u8], most: usize) -> usize
+    requires { most ≤ 1000000000000000000 }
+    ensures { (result ≡ min most (value 0 s.now)) × (result ≤ most) }
 {
-    if b < k { 0 } else { b - k }
-}
-
-fn cap(t: u32) -> u32
-    ensures { (result ≡ min 10000 t) × (result ≤ 10000) }
-{
-    if t < 10000 { t } else { 10000 }
-}
-
-// The value of decimal digits, or 10,000 where it is more.
-pub fn value_of(s: &[u8]) -> u32
-    ensures { (result ≡ min 10000 (value 0 s.now)) × (result ≤ 10000) }
-{
-    let mut n: u32 = 0;
-    let mut j = 0;
-    while j < s.len() {
-        let d = less(s[j], 48) as u32;
-        n = cap(10 * n + d);
-        j += 1;
+    let mut n = 0;
+    for &b in s {
+        n = (10 * n + b.saturating_sub(b'0') as usize).min(most);
     }
     n
 }
 
 // The value of a hex digit.
+#[tactic(auto, using(std::proofs::lemmas::Grind::common_steps), unfolding(crate::specs::Bytes::hex_of))]
 fn hex_of(b: u8) -> u32
     ensures { (result ≡ hex_of b) × (result ≤ 255) }
 {
-    if b <= 57 {
-        return less(b, 48) as u32;
-    }
-    if b <= 70 {
-        return less(b, 55) as u32;
-    }
-    less(b, 87) as u32
+    let nought = match b {
+        ..=b'9' => b'0',
+        ..=b'F' => b'A' - 10,
+        _ => b'a' - 10,
+    };
+    b.saturating_sub(nought) as u32
 }
 
 // The value of four hex digits.
+#[tactic(auto, using(std::proofs::lemmas::Grind::common_steps), unfolding(crate::specs::Bytes::hex4_of))]
 pub fn hex4_of(xs: &[u8]) -> u32
     requires { 4 ≤ length xs.now }
     ensures { result ≡ hex4_of xs.now }
@@ -152,10 +106,7 @@ pub fn count_fuses(s: &[u8]) -> usize
     ensures { (result ≡ length (fuses s.now)) × (result ≤ length s.now) }
 {
     let mut n: usize = 0;
-    let mut j = 0;
-    while j < s.len() {
-        let b = s[j];
-        j += 1;
+    for &b in s {
         if is_fuse(b) {
             n += 1;
         }
@@ -169,12 +120,9 @@ pub fn put_fuses(s: &[u8], cells: &mut [u8], at: usize) -> usize
     ensures { Wrote cells.old at (fuses s.now) cells.new result }
 {
     let mut o = at;
-    let mut j = 0;
-    while j < s.len() {
-        let b = s[j];
-        j += 1;
+    for &b in s {
         if is_fuse(b) {
-            cells[o] = b - 48;
+            cells[o] = b - b'0';
             o += 1;
         }
     }

@@ -4,254 +4,208 @@
 pub mod bytes;
 
 ghost use Rattle.std.specs.Prelude.{◌≡◌, ℕ, ◌+◌, ◌≤◌, ◌<◌, length};
-ghost use Rattle.fusefields.specs.Fields.{one, number_fault, judge_f, judge_g, judge_c, judge_qf, judge_qp, judge_q, judge_plain, judge_l, judge, step_of, listed, listed_rest, listed_fuses, Says};
+ghost use Rattle.basics.specs.Refusal.{fault_of};
+ghost use Rattle.fusefields.specs.Fields.{one, number_fault, judged, judge_f, judge_g, judge_c, judge_qf, judge_qp, judge_q, judge_plain, judge_l, judge, step_of, listed, listed_rest, listed_fuses, Says};
 
-use bytes::{count_fuses, hex4_of, is_fuse, put_fuses, run, value_of};
+use basics::refusal::Reason;
+use bytes::{
+    count_fuses, hex4_of, is_blank, is_digit, is_fuse, is_fuse_or_blank, is_hexit, put_fuses, run,
+    value_of,
+};
 
-// What has been seen: whether QF, QP, G and L came, F's value (2: none), and C's (65,536: none).
+// How many fuses a map has; and how far numbers are told apart, which is further than any fuse or any number that is asked for.
+const FUSES: usize = 5892;
+
+const CAP: usize = 10000;
+
+// What has been seen: whether QF, QP, G and L came, and the values of F and C where they came.
 #[derive(Clone, Copy)]
 pub struct Seen {
     pub qf: bool,
     pub qp: bool,
     pub g: bool,
     pub l: bool,
-    pub f: u8,
-    pub c: u32,
-}
-
-// What a field does: what has been seen then, or a refusal's number.
-#[derive(Clone, Copy)]
-pub enum Judged {
-    Good(Seen),
-    Bad(u8),
+    pub f: Option<u8>,
+    pub c: Option<u32>,
 }
 
 // Whether xs is one 0 or 1.
+#[tactic(auto, using(std::proofs::lemmas::Grind::common_steps), unfolding(crate::specs::Fields::one))]
 fn is_one(xs: &[u8]) -> bool
     ensures { result ≡ one xs.now }
 {
-    if xs.len() != 1 {
-        return false;
-    }
-    is_fuse(xs[0])
+    xs.len() == 1 && is_fuse(xs[0])
 }
 
-// What is wrong with a number that must be n.
-fn number_fault(xs: &[u8], n: u32) -> u8
+// Whether xs is the number n.
+#[tactic(auto, using(std::proofs::lemmas::Grind::common_steps), unfolding(crate::specs::Fields::number_fault))]
+fn check_number(xs: &[u8], n: usize) -> Result<(), Reason>
     requires { n < 10000 }
-    ensures { result ≡ number_fault xs.now n }
+    ensures { fault_of result ≡ number_fault xs.now n }
 {
-    if xs.len() < 1 {
-        return 20;
+    if xs.len() < 1 || run(xs, is_digit) < xs.len() {
+        return Err(Reason::Form);
     }
-    if run(1, xs) < xs.len() {
-        return 20;
+    if value_of(xs, CAP) != n {
+        return Err(Reason::Device);
     }
-    if value_of(xs) != n {
-        return 21;
-    }
-    0
+    Ok(())
 }
 
 // Behind an F.
-fn judge_f(s: Seen, xs: &[u8]) -> Judged
-    ensures { result ≡ judge_f s xs.now }
+#[tactic(auto, using(std::proofs::lemmas::Grind::common_steps, crate::proofs::Judges::one_length, crate::proofs::Judges::one_code), unfolding(crate::specs::Fields::judge_f))]
+fn judge_f(s: Seen, xs: &[u8]) -> Result<Seen, Reason>
+    ensures { judged result ≡ judge_f s xs.now }
 {
-    if s.qf {
-        if s.f != 2 {
-            return Judged::Bad(20);
-        }
-        if s.l {
-            return Judged::Bad(20);
-        }
-        if is_one(xs) {
-            let mut t = s;
-            t.f = xs[0] - 48;
-            return Judged::Good(t);
-        }
+    if !s.qf || s.f.is_some() || s.l || !is_one(xs) {
+        return Err(Reason::Form);
     }
-    Judged::Bad(20)
+    Ok(Seen {
+        f: Some(xs[0] - b'0'),
+        ..s
+    })
 }
 
 // Behind a G.
-fn judge_g(s: Seen, xs: &[u8]) -> Judged
-    ensures { result ≡ judge_g s xs.now }
+#[tactic(auto, using(std::proofs::lemmas::Grind::common_steps), unfolding(crate::specs::Fields::judge_g))]
+fn judge_g(s: Seen, xs: &[u8]) -> Result<Seen, Reason>
+    ensures { judged result ≡ judge_g s xs.now }
 {
-    if s.g {
-        return Judged::Bad(20);
+    if s.g || !is_one(xs) {
+        return Err(Reason::Form);
     }
-    if is_one(xs) {
-        let mut t = s;
-        t.g = true;
-        return Judged::Good(t);
-    }
-    Judged::Bad(20)
+    Ok(Seen { g: true, ..s })
 }
 
 // Behind a C.
-fn judge_c(s: Seen, xs: &[u8]) -> Judged
-    ensures { result ≡ judge_c s xs.now }
+#[tactic(auto, using(std::proofs::lemmas::Grind::common_steps), unfolding(crate::specs::Fields::judge_c))]
+fn judge_c(s: Seen, xs: &[u8]) -> Result<Seen, Reason>
+    ensures { judged result ≡ judge_c s xs.now }
 {
-    if s.c != 65536 {
-        return Judged::Bad(20);
+    if s.c.is_some() || xs.len() != 4 || run(xs, is_hexit) < xs.len() {
+        return Err(Reason::Form);
     }
-    if xs.len() != 4 {
-        return Judged::Bad(20);
-    }
-    if run(3, xs) < xs.len() {
-        return Judged::Bad(20);
-    }
-    let mut t = s;
-    t.c = hex4_of(xs);
-    Judged::Good(t)
+    Ok(Seen {
+        c: Some(hex4_of(xs)),
+        ..s
+    })
 }
 
 // Behind QF.
-fn judge_qf(s: Seen, xs: &[u8]) -> Judged
-    ensures { result ≡ judge_qf s xs.now }
+#[tactic(auto, using(std::proofs::lemmas::Grind::common_steps), unfolding(crate::specs::Fields::judge_qf))]
+fn judge_qf(s: Seen, xs: &[u8]) -> Result<Seen, Reason>
+    ensures { judged result ≡ judge_qf s xs.now }
 {
     if s.qf {
-        return Judged::Bad(20);
+        return Err(Reason::Form);
     }
-    let e = number_fault(xs, 5892);
-    if e != 0 {
-        return Judged::Bad(e);
-    }
-    let mut t = s;
-    t.qf = true;
-    Judged::Good(t)
+    check_number(xs, FUSES)?;
+    Ok(Seen { qf: true, ..s })
 }
 
 // Behind QP.
-fn judge_qp(s: Seen, xs: &[u8]) -> Judged
-    ensures { result ≡ judge_qp s xs.now }
+#[tactic(auto, using(std::proofs::lemmas::Grind::common_steps), unfolding(crate::specs::Fields::judge_qp))]
+fn judge_qp(s: Seen, xs: &[u8]) -> Result<Seen, Reason>
+    ensures { judged result ≡ judge_qp s xs.now }
 {
     if s.qp {
-        return Judged::Bad(20);
+        return Err(Reason::Form);
     }
-    let e = number_fault(xs, 24);
-    if e != 0 {
-        return Judged::Bad(e);
-    }
-    let mut t = s;
-    t.qp = true;
-    Judged::Good(t)
+    check_number(xs, 24)?;
+    Ok(Seen { qp: true, ..s })
 }
 
 // Behind a Q.
-fn judge_q(s: Seen, xs: &[u8]) -> Judged
-    ensures { result ≡ judge_q s xs.now }
+#[tactic(auto, using(std::proofs::lemmas::Grind::common_steps, crate::proofs::Judges::judge_q_empty, crate::proofs::Judges::judge_q_cons))]
+fn judge_q(s: Seen, xs: &[u8]) -> Result<Seen, Reason>
+    ensures { judged result ≡ judge_q s xs.now }
 {
-    if xs.len() < 1 {
-        return Judged::Good(s);
+    match xs {
+        [b'F', xs @ ..] => judge_qf(s, xs),
+        [b'P', xs @ ..] => judge_qp(s, xs),
+        _ => Ok(s),
     }
-    let x = xs[0];
-    if x == 70 {
-        return judge_qf(s, &xs[1..]);
-    }
-    if x == 80 {
-        return judge_qp(s, &xs[1..]);
-    }
-    Judged::Good(s)
 }
 
 // A field that is no L, by its letter.
-fn judge_plain(s: Seen, x: u8, xs: &[u8]) -> Judged
-    ensures { result ≡ judge_plain s x xs.now }
+#[tactic(auto, using(std::proofs::lemmas::Grind::common_steps), unfolding(crate::specs::Fields::judge_plain))]
+fn judge_plain(s: Seen, x: u8, xs: &[u8]) -> Result<Seen, Reason>
+    ensures { judged result ≡ judge_plain s x xs.now }
 {
-    if x == 67 {
-        return judge_c(s, xs);
+    match x {
+        b'C' => judge_c(s, xs),
+        b'F' => judge_f(s, xs),
+        b'G' => judge_g(s, xs),
+        b'Q' => judge_q(s, xs),
+        b'A'..=b'Z' => Ok(s),
+        _ => Err(Reason::Form),
     }
-    if x == 70 {
-        return judge_f(s, xs);
-    }
-    if x == 71 {
-        return judge_g(s, xs);
-    }
-    if x == 81 {
-        return judge_q(s, xs);
-    }
-    if x < 65 {
-        return Judged::Bad(20);
-    }
-    if x <= 90 {
-        return Judged::Good(s);
-    }
-    Judged::Bad(20)
 }
 
-// The contents of an L field, for the fuses from n on: they go into cells, or a refusal's number is answered.
-fn list_fuses(n: u32, xs: &[u8], cells: &mut [u8]) -> u8
+// The contents of an L field, for the fuses from n on: they go into cells.
+#[tactic(auto, using(std::proofs::lemmas::Grind::common_steps), unfolding(crate::specs::Fields::listed_fuses))]
+fn list_fuses(n: usize, xs: &[u8], cells: &mut [u8]) -> Result<(), Reason>
     requires { (n ≤ 10000) × (length cells.old ≡ 5892) }
-    ensures { Says (listed_fuses n xs.now) result cells.old cells.new }
+    ensures { Says (listed_fuses n xs.now) (fault_of result) cells.old cells.new }
 {
-    if xs.len() < 1 {
-        return 20;
+    if xs.len() < 1 || run(xs, is_fuse_or_blank) < xs.len() {
+        return Err(Reason::Form);
     }
-    if run(2, xs) < xs.len() {
-        return 20;
+    if FUSES < n + count_fuses(xs) {
+        return Err(Reason::Fuse);
     }
-    let from = n as usize;
-    let count = count_fuses(xs);
-    if 5892 < from + count {
-        return 22;
-    }
-    put_fuses(xs, cells, from);
-    0
+    put_fuses(xs, cells, n);
+    Ok(())
 }
 
 // Blanks, and the contents.
-fn list_rest(n: u32, xs: &[u8], cells: &mut [u8]) -> u8
+#[tactic(auto, using(std::proofs::lemmas::Grind::common_steps, crate::proofs::Fronts::part_past), unfolding(crate::specs::Fields::listed_rest))]
+fn list_rest(n: usize, xs: &[u8], cells: &mut [u8]) -> Result<(), Reason>
     requires { (n ≤ 10000) × (length cells.old ≡ 5892) }
-    ensures { Says (listed_rest n xs.now) result cells.old cells.new }
+    ensures { Says (listed_rest n xs.now) (fault_of result) cells.old cells.new }
 {
-    let b = run(0, xs);
+    let b = run(xs, is_blank);
     if b < 1 {
-        return 20;
+        return Err(Reason::Form);
     }
     list_fuses(n, &xs[b..], cells)
 }
 
 // What stands behind an L.
-fn list(xs: &[u8], cells: &mut [u8]) -> u8
+#[tactic(auto, using(std::proofs::lemmas::Grind::common_steps, crate::proofs::Fronts::part_past, crate::proofs::Fronts::part_front, crate::proofs::Judges::listed_capped), unfolding(crate::specs::Fields::listed))]
+fn list(xs: &[u8], cells: &mut [u8]) -> Result<(), Reason>
     requires { length cells.old ≡ 5892 }
-    ensures { Says (listed xs.now) result cells.old cells.new }
+    ensures { Says (listed xs.now) (fault_of result) cells.old cells.new }
 {
-    let n = run(1, xs);
+    let n = run(xs, is_digit);
     if n < 1 {
-        return 20;
+        return Err(Reason::Form);
     }
-    list_rest(value_of(&xs[..n]), &xs[n..], cells)
+    list_rest(value_of(&xs[..n], CAP), &xs[n..], cells)
 }
 
 // Behind an L.
-fn judge_l(s: Seen, xs: &[u8], cells: &mut [u8]) -> Judged
+#[tactic(auto, using(std::proofs::lemmas::Grind::common_steps), unfolding(crate::specs::Fields::judge_l))]
+fn judge_l(s: Seen, xs: &[u8], cells: &mut [u8]) -> Result<Seen, Reason>
     requires { length cells.old ≡ 5892 }
-    ensures { step_of result cells.new ≡ judge_l s xs.now cells.old }
+    ensures { step_of (judged result) cells.new ≡ judge_l s xs.now cells.old }
 {
-    if s.qf {
-        let e = list(xs, cells);
-        if e != 0 {
-            return Judged::Bad(e);
-        }
-        let mut t = s;
-        t.l = true;
-        return Judged::Good(t);
+    if !s.qf {
+        return Err(Reason::Form);
     }
-    Judged::Bad(20)
+    list(xs, cells)?;
+    Ok(Seen { l: true, ..s })
 }
 
 // A field, from its first byte up to its `*`.
-pub fn judge(s: Seen, xs: &[u8], cells: &mut [u8]) -> Judged
+#[tactic(auto, using(crate::proofs::Judges::judge_empty, crate::proofs::Judges::judge_cons))]
+pub fn judge(s: Seen, xs: &[u8], cells: &mut [u8]) -> Result<Seen, Reason>
     requires { length cells.old ≡ 5892 }
-    ensures { step_of result cells.new ≡ judge (s) xs.now cells.old }
+    ensures { step_of (judged result) cells.new ≡ judge s xs.now cells.old }
 {
-    if xs.len() < 1 {
-        return Judged::Bad(20);
+    match xs {
+        [] => Err(Reason::Form),
+        [b'L', xs @ ..] => judge_l(s, xs, cells),
+        [x, xs @ ..] => judge_plain(s, *x, xs),
     }
-    let x = xs[0];
-    if x == 76 {
-        return judge_l(s, &xs[1..], cells);
-    }
-    judge_plain(s, x, &xs[1..])
 }

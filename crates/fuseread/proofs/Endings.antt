@@ -9,6 +9,8 @@ use lib.Seq.{take_all, take-nil}
 use lib.Dec.{eqb}
 use borrow.Author.Tests.{le-leb, lt-leb, lt-ltb, le-ltb, eq-eqb, ne_eqb}
 use Rattle.basics.specs.Choice.{pick}
+use Rattle.std.specs.Option.{unwrap_or}
+use Rattle.std.specs.Prelude.{Option}
 use Rattle.basics.proofs.Lists.{drop_next}
 use Rattle.fusetext.specs.File.{bits}
 use Rattle.fusetext.specs.Outcome.{gives, refuses}
@@ -37,48 +39,23 @@ to_end s e = take_all (length s - e) (drop e s) (simp length-drop (omega arith))
 
 -- ---- each step's outcomes, from what the code's tests say
 
-module _ (s : List ℕ) (z c : ℕ) (m : List ℕ) where
+module _ (s : List ℕ) (z : ℕ) (c : Option ℕ) (m : List ℕ) where
   pub summed_fine : fuse_sum_fits c m ≡ true → last_sum_fits s z ≡ true → gives m ≡ summed s z c m
   unfolding summed
   summed_fine f e = rw (f, e)
 
-  pub summed_last : fuse_sum_fits c m ≡ true → last_sum_fits s z ≡ false → refuses 24 0 ≡ summed s z c m
-  unfolding summed
-  summed_last f e = rw (f, e)
-
-  pub summed_fuse : fuse_sum_fits c m ≡ false → refuses 23 0 ≡ summed s z c m
-  unfolding summed
-  summed_fuse f = rw f
-
 module _ (s : List ℕ) (z : ℕ) (seen : Seen) (cells : List ℕ) where
-  pub whole_unsized : seen.qf ≡ false → refuses 20 (length s) ≡ whole s z seen cells
-  unfolding whole
-  whole_unsized q = rw q
-
-  pub whole_gap : seen.qf ≡ true → bits (filled seen.f cells) ≡ false → refuses 20 (length s) ≡ whole s z seen cells
+  pub whole_gap : seen.qf ≡ true → bits (filled (unwrap_or seen.f 2) cells) ≡ false → refuses 20 (length s) ≡ whole s z seen cells
   unfolding whole
   whole_gap q e = rw (q, e)
 
-  pub whole_full : seen.qf ≡ true → bits (filled seen.f cells) ≡ true → summed s z seen.c (filled seen.f cells) ≡ whole s z seen cells
+  pub whole_full : seen.qf ≡ true → bits (filled (unwrap_or seen.f 2) cells) ≡ true → summed s z seen.c (filled (unwrap_or seen.f 2) cells) ≡ whole s z seen cells
   unfolding whole
   whole_full q e = rw (q, e)
 
   pub ending_fine : 4 ≤ length (front hexit (drop (z + 1) s)) → length (drop (z + 5) s) ≤ length (front blank (drop (z + 5) s)) → whole s z seen cells ≡ ending s z seen cells
   unfolding ending
   ending_fine h b = rw (le-leb _ _ h, le-leb _ _ b)
-
-  pub ending_more : 4 ≤ length (front hexit (drop (z + 1) s)) → length (front blank (drop (z + 5) s)) < length (drop (z + 5) s)
-      → refuses 20 (z + 5 + length (front blank (drop (z + 5) s))) ≡ ending s z seen cells
-  unfolding ending
-  ending_more h b = rw (le-leb _ _ h, lt-leb _ _ b)
-
-  pub ending_cut : length (front hexit (drop (z + 1) s)) < 4 → length (drop (z + 1) s) ≤ length (front hexit (drop (z + 1) s)) → refuses 20 (length s) ≡ ending s z seen cells
-  unfolding ending
-  ending_cut h b = rw (lt-leb _ _ h, le-leb _ _ b)
-
-  pub ending_form : length (front hexit (drop (z + 1) s)) < 4 → length (front hexit (drop (z + 1) s)) < length (drop (z + 1) s) → refuses 20 (z + 1) ≡ ending s z seen cells
-  unfolding ending
-  ending_form h b = rw (lt-leb _ _ h, lt-leb _ _ b)
 
 module _ (s : List ℕ) (z h : ℕ) where
   pub opened_star : h + 1 < z → closing s z (walk unseen unlisted (h + 2) (pieces (drop (h + 2) (take z s)))) ≡ opened s z h

@@ -10,10 +10,8 @@ use lib.Dec.{eqb}
 use borrow.Author.Tests.{le-leb, lt-leb}
 use Rattle.basics.specs.Choice.{pick}
 use Rattle.fusefields.specs.Bytes.{not_star, blank, front, past}
-use Rattle.fusefields.specs.Fields.{only, Step, step_of, judge}
+use Rattle.fusefields.specs.Fields.{only, Step, stop, go, judge}
 use Rattle.fusefields.specs.declared.Seen.{Seen}
-use Rattle.fusefields.specs.declared.Judged.{Judged}
-use Rattle.fusefields.specs.declared.Judged.TheVariants.{Good, Bad}
 use Rattle.fusefields.proofs.Fronts.{front_length, part_front, part_past}
 use Rattle.fuseread.specs.Walk.{glue, pieces, ended, fault, open_at, next, walk}
 
@@ -120,12 +118,11 @@ module _ (s : Seen) (cells text : List ℕ) (at n b : ℕ) (inside : at ≤ leng
         ∙ turn-field s cells at rest (omega arith)
         ∙ (λ i. next (judge s (e₁ i) cells) (at + e₂ i) (λ s cells. walk s cells (at + e₃ i + 1) (pieces (e₄ i))))
 
-    pub turn_good : n < length rest → (r : Judged) (after : List ℕ) (t : Seen) → step_of r after ≡ judge s (take (length piece - b) (drop b piece)) cells → r ≡ Good t
+    pub turn_good : n < length rest → (t : Seen) (after : List ℕ) → go t after ≡ judge s (take (length piece - b) (drop b piece)) cells
         → walk t after (at + n + 1) (pieces (drop (at + n + 1) text)) ≡ walk s cells at (pieces (drop at text))
-    turn_good h r after t j e =
-        sym (turn_judge h ∙ ap (λ (x : Step). next x (at + b) (λ s cells. walk s cells (at + n + 1) (pieces (drop (at + n + 1) text)))) (sym j ∙ ap (λ (x : Judged). step_of x after) e))
+    turn_good h t after j =
+        sym (turn_judge h ∙ ap (λ (x : Step). next x (at + b) (λ s cells. walk s cells (at + n + 1) (pieces (drop (at + n + 1) text)))) (sym j))
 
-    pub turn_bad : n < length rest → (r : Judged) (after : List ℕ) (k : ℕ) → step_of r after ≡ judge s (take (length piece - b) (drop b piece)) cells → r ≡ Bad k
-        → fault k (at + b) ≡ walk s cells at (pieces (drop at text))
-    turn_bad h r after k j e =
-        sym (turn_judge h ∙ ap (λ (x : Step). next x (at + b) (λ s cells. walk s cells (at + n + 1) (pieces (drop (at + n + 1) text)))) (sym j ∙ ap (λ (x : Judged). step_of x after) e))
+    pub turn_bad : n < length rest → (k : ℕ) → stop k ≡ judge s (take (length piece - b) (drop b piece)) cells → fault k (at + b) ≡ walk s cells at (pieces (drop at text))
+    turn_bad h k j =
+        sym (turn_judge h ∙ ap (λ (x : Step). next x (at + b) (λ s cells. walk s cells (at + n + 1) (pieces (drop (at + n + 1) text)))) (sym j))

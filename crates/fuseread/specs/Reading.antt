@@ -1,14 +1,15 @@
 -- Reading a whole fuse file (document 01, 'The fuse file', Reading, and 'Refusal numbers'). Assumes nothing.
-use Rattle.std.specs.Prelude.{◌≡◌, List, [], ◌∷◌, Bool, true, ℕ, ◌+◌, ◌%◌, length, take, drop, get_or, replicate, leb, ltb, eqb}
+use Rattle.std.specs.Prelude.{◌≡◌, List, [], ◌∷◌, Bool, true, ℕ, ◌+◌, ◌%◌, length, take, drop, get_or, replicate, leb, ltb, eqb, Option, Some, None, Result, Ok, Err}
 use Rattle.basics.specs.Choice.{pick}
+use Rattle.std.specs.Option.{unwrap_or}
+use Rattle.basics.specs.Refusal.{number_of, Numbered, answered, refused}
+use Rattle.basics.specs.declared.refusal.Refusal.{Refusal}
 use Rattle.fusetext.specs.File.{bits, fuse_sum, sum}
 use Rattle.fusetext.specs.Outcome.{Outcome, gives, refuses, left}
 use Rattle.fusefields.specs.Bytes.{blank, hexit, not_star, not_end, front, hex4_of}
 use Rattle.fusefields.specs.Fields.{only, unseen}
 use Rattle.fusefields.specs.declared.Seen.{Seen}
 use Rattle.fuseread.specs.Walk.{Walked, ended, fault, open_at, walk, pieces}
-use Rattle.fuseread.specs.declared.Reading.{Reading}
-use Rattle.fuseread.specs.declared.Reading.TheVariants.{Map, Refused}
 
 -- no fuse is listed yet: each is 2 until then
 unfoldable pub unlisted : List ℕ
@@ -19,23 +20,24 @@ unfoldable pub filled : ℕ → List ℕ → List ℕ
 filled f [] = []
 filled f (x ∷ xs) = pick (eqb x 2) f x ∷ filled f xs
 
--- 'Refusal numbers', 23: C is absent (65,536), or the low 16 bits of the fuse sum
-unfoldable pub fuse_sum_fits : ℕ → List ℕ → Bool
-fuse_sum_fits c m = pick (eqb c 65536) true (eqb (fuse_sum m % 65536) c)
+-- 'Refusal numbers', 23: C is absent, or the low 16 bits of the fuse sum
+unfoldable pub fuse_sum_fits : Option ℕ → List ℕ → Bool
+fuse_sum_fits None m = true
+fuse_sum_fits (Some c) m = eqb (fuse_sum m % 65536) c
 
 -- 'Refusal numbers', 24: the last four digits are the low 16 bits of the sum of the bytes up to byte 3, which stands at z
 unfoldable pub last_sum_fits : List ℕ → ℕ → Bool
 last_sum_fits s z = eqb (sum (take (z + 1) s) % 65536) (hex4_of (drop (z + 1) s))
 
 -- 23, then 24, then the map
-unfoldable pub summed : List ℕ → ℕ → ℕ → List ℕ → Outcome
+unfoldable pub summed : List ℕ → ℕ → Option ℕ → List ℕ → Outcome
 summed s z c m = pick (fuse_sum_fits c m) (pick (last_sum_fits s z) (gives m) (refuses 24 0)) (refuses 23 0)
 
 -- decision 38: what is missing, QF or a fuse that is neither listed nor has a default: 20 at the file's length
 unfoldable pub whole : List ℕ → ℕ → Seen → List ℕ → Outcome
 whole s z seen cells =
     pick seen.qf
-    (pick (bits (filled seen.f cells)) (summed s z seen.c (filled seen.f cells)) (refuses 20 (length s)))
+    (pick (bits (filled (unwrap_or seen.f 2) cells)) (summed s z seen.c (filled (unwrap_or seen.f 2) cells)) (refuses 20 (length s)))
     (refuses 20 (length s))
 
 -- decision 33: right behind byte 3, at z, are four hex digits, and behind them nothing but blanks; a file that ends among the digits
@@ -72,18 +74,18 @@ unfoldable pub read_into : List ℕ → ℕ → Outcome
 read_into file room = pick (eqb room 5892) (read_of file) (refuses 31 0)
 
 -- the reader's answer for each outcome
-abbrev pub reading_of : Outcome → Reading
-reading_of (gives m) = Map
-reading_of (refuses number place) = Refused number place
+abbrev pub reading_of : Outcome → Result (Unit {0}) Numbered
+reading_of (gives m) = Ok tt
+reading_of (refuses number place) = refused number place
 
 -- and back: the answer, with the fuses that stand beside it
-abbrev pub outcome_of : Reading → List ℕ → Outcome
-outcome_of Map m = gives m
-outcome_of (Refused number place) m = refuses number place
+abbrev pub outcome_of : Result (Unit {0}) Refusal → List ℕ → Outcome
+outcome_of (Ok a) m = gives m
+outcome_of (Err r) m = refuses (number_of r.reason) r.place
 
 -- What a call of the reader does, on a file and a lent map that held `before`: its answer, what the map holds then, and that a map that is
 -- given fills it.
-pub record Reads (file before : List ℕ) (answer : Reading) (after : List ℕ) : Type 0 where
-  pub answers : answer ≡ reading_of (read_into file (length before))
+pub record Reads (file before : List ℕ) (answer : Result (Unit {0}) Refusal) (after : List ℕ) : Type 0 where
+  pub answers : answered answer ≡ reading_of (read_into file (length before))
   pub leaves : after ≡ left (read_into file (length before)) before
   pub fills : outcome_of answer after ≡ read_into file (length before)

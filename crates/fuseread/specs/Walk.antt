@@ -1,11 +1,13 @@
 -- The fields of a fuse file, one after the other (document 01, 'The fuse file', Reading). Assumes nothing.
-use Rattle.std.specs.Prelude.{List, [], ◌∷◌, ℕ, ◌+◌, length, eqb}
+use Rattle.std.specs.Prelude.{List, [], ◌∷◌, ℕ, ◌+◌, length, eqb, Result, Ok, Err}
 use Rattle.basics.specs.Choice.{pick}
+use Rattle.basics.specs.Refusal.{number_of}
+use Rattle.basics.specs.declared.refusal.Refusal.{Refusal}
 use Rattle.fusefields.specs.Bytes.{blank, front, past}
 use Rattle.fusefields.specs.Fields.{only, Step, stop, go, judge}
 use Rattle.fusefields.specs.declared.Seen.{Seen}
 use Rattle.fuseread.specs.declared.Walk.{Walk}
-use Rattle.fuseread.specs.declared.Walk.TheVariants.{Ended, Fault, Open}
+use Rattle.fuseread.specs.declared.Walk.TheVariants.{Ended, Open}
 
 -- a list cut at each `*` (42): all but the last piece are fields with the blanks before them
 abbrev pub glue : ℕ → List (List ℕ) → List (List ℕ)
@@ -37,7 +39,7 @@ walk s cells at (p ∷ (q ∷ ps)) =
     next (judge s (past blank p) cells) (at + length (front blank p)) (λ s cells. walk s cells (at + length p + 1) (q ∷ ps))
 
 -- the same of what the function that walks answers, and of the fuses that it leaves
-abbrev pub walked_of : Walk → List ℕ → Walked
-walked_of (Ended s) cells = ended s cells
-walked_of (Fault n place) cells = fault n place
-walked_of (Open place) cells = open_at place
+abbrev pub walked_of : Result Walk Refusal → List ℕ → Walked
+walked_of (Ok (Ended s)) cells = ended s cells
+walked_of (Ok (Open place)) cells = open_at place
+walked_of (Err r) cells = fault (number_of r.reason) r.place

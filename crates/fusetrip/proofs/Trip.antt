@@ -10,11 +10,10 @@ use borrow.Author.Tests.{le-leb}
 use Rattle.fusetext.specs.File.{is_map, file_of}
 use Rattle.fusetext.specs.Outcome.{Outcome, gives, refuses, left}
 use Rattle.fusetext.proofs.Files.{map_length_lem, map_bits}
-use Rattle.fusewrite.specs.declared.Written.{Written}
-use Rattle.fusewrite.specs.declared.Written.TheVariants.{File}
+use Rattle.std.specs.Prelude.{Result, Ok}
+use Rattle.basics.specs.declared.refusal.Refusal.{Refusal}
+use Rattle.basics.proofs.Refusals.{answered_once}
 use Rattle.fusewrite.specs.Writing.{write_of, written_of, Writes}
-use Rattle.fuseread.specs.declared.Reading.{Reading}
-use Rattle.fuseread.specs.declared.Reading.TheVariants.{Map}
 use Rattle.fuseread.specs.Reading.{read_of, read_into, reading_of, Reads}
 use Rattle.fuseread.proofs.Endings.{into_map}
 use Rattle.fusetrip.proofs.Whole.{whole_trip}
@@ -32,8 +31,8 @@ file_tells m n h k e = ap bytes (sym (trip m h) ∙ ap read_of e ∙ trip n k)
     bytes (refuses number place) = m
 
 -- the same of the two calls: what `write` leaves of a map's file at the start of its output, `read` takes into a lent map, whole
-pub write_read : (m before after old new : List ℕ) (w : Written) (r : Reading) → is_map m ≡ true → 7154 ≤ length before → length old ≡ 5892
-    → Writes m before w after → Reads (take (length (file_of m)) after) old r new → (w ≡ File (length (file_of m))) × (r ≡ Map) × (new ≡ m)
+pub write_read : (m before after old new : List ℕ) (w : Result ℕ Refusal) (r : Result (Unit {0}) Refusal) → is_map m ≡ true → 7154 ≤ length before → length old ≡ 5892
+    → Writes m before w after → Reads (take (length (file_of m)) after) old r new → (w ≡ Ok (length (file_of m))) × (r ≡ Ok tt) × (new ≡ m)
 write_read m before after old new w r h room size p q =
     let written : write_of m (length before) ≡ gives (file_of m) = wrote-file m (length before) h room in
     let file : take (length (file_of m)) after ≡ file_of m =
@@ -41,8 +40,8 @@ write_read m before after old new w r h room size p q =
     let got : read_into (take (length (file_of m)) after) (length old) ≡ gives m =
     sym (into_map (take (length (file_of m)) after) (length old) size) ∙ ap read_of file ∙ trip m h in
     let none : drop (length m) old ≡ [] = let e = map_length_lem m h in drop_of_length-le old {i = length m} (omega arith) in (
-      p.answers ∙ ap written_of written,
-      q.answers ∙ ap reading_of got,
+      answered_once w (Ok (length (file_of m))) (p.answers ∙ ap written_of written),
+      answered_once r (Ok tt) (q.answers ∙ ap reading_of got),
       q.leaves ∙ ap (λ (o : Outcome). left o old) got ∙ ap (λ (l : List ℕ). m ++ l) none ∙ append-nil m,
     )
   where

@@ -24,6 +24,8 @@ use Rattle.fusetext.specs.Outcome.{gives}
 use Rattle.fusetrip.proofs.Back.{all, all_append, front_append, pieces_append, hex4_of_hex4}
 use Rattle.fusetrip.proofs.Rows.{Walks, walks_all}
 use Rattle.fusefields.specs.declared.Seen.{Seen}
+use Rattle.std.specs.Prelude.{Option, Some, None}
+use Rattle.std.specs.Option.{unwrap_or}
 
 -- ---- no byte 3 before the end
 
@@ -103,16 +105,16 @@ field s cells at p ys h = ap (walk s cells at) (pieces_append p ys h) ∙ walk_f
 
 -- QP, QF, G and F, as they are always written
 abbrev s₁ : Seen
-s₁ = record { qf = false; qp = true; g = false; l = false; f = 2; c = 65536 }
+s₁ = record { qf = false; qp = true; g = false; l = false; f = None; c = None }
 
 abbrev s₂ : Seen
-s₂ = record { qf = true; qp = true; g = false; l = false; f = 2; c = 65536 }
+s₂ = record { qf = true; qp = true; g = false; l = false; f = None; c = None }
 
 abbrev s₃ : Seen
-s₃ = record { qf = true; qp = true; g = true; l = false; f = 2; c = 65536 }
+s₃ = record { qf = true; qp = true; g = true; l = false; f = None; c = None }
 
 abbrev s₄ : Seen
-s₄ = record { qf = true; qp = true; g = true; l = false; f = 0; c = 65536 }
+s₄ = record { qf = true; qp = true; g = true; l = false; f = Some 0; c = None }
 
 four : (cells ys : List ℕ) → walk unseen cells 15 (pieces (text "\r\nQP24*\r\nQF5892*\r\nG0*\r\nF0*" ++ ys)) ≡ walk s₄ cells 41 (pieces ys)
 unfolding all not_star judge judge_plain judge_q judge_qf judge_qp judge_g judge_f number_fault one past front blank digit fuse value
@@ -166,15 +168,15 @@ hex4_back n = ap hex4_of (sym (append-nil (hex4 n))) ∙ hex4_of_hex4 n []
 
 -- the sum is now seen
 abbrev saw_c : Seen → ℕ → Seen
-saw_c s v = record { qf = s.qf; qp = s.qp; g = s.g; l = s.l; f = s.f; c = v }
+saw_c s v = record { qf = s.qf; qp = s.qp; g = s.g; l = s.l; f = s.f; c = Some v }
 
-cjudge : (s : Seen) (cells : List ℕ) (n : ℕ) → s.c ≡ 65536 → judge s (67 ∷ hex4 n) cells ≡ go (saw_c s (hex4_of (hex4 n))) cells
+cjudge : (s : Seen) (cells : List ℕ) (n : ℕ) → s.c ≡ None → judge s (67 ∷ hex4 n) cells ≡ go (saw_c s (hex4_of (hex4 n))) cells
 unfolding judge judge_plain judge_c
 cjudge s cells n e =
     let l : length (hex4 n) ≤ length (front hexit (hex4 n)) = omega (arith, ap length (hex4_front n)) in
-    rw (eq-eqb _ _ e, eq-eqb _ _ (hex4_length n), le-leb _ _ l)
+    rw (e, eq-eqb _ _ (hex4_length n), le-leb _ _ l)
 
-cfield : (s : Seen) (cells : List ℕ) (at : ℕ) (m : List ℕ) → s.c ≡ 65536
+cfield : (s : Seen) (cells : List ℕ) (at : ℕ) (m : List ℕ) → s.c ≡ None
     → walk s cells at (pieces (13 ∷ 10 ∷ checking m)) ≡ ended (saw_c s (hex4_of (hex4 (fuse_sum m)))) cells
 cfield s cells at m e =
     let h : List ℕ = hex4 (fuse_sum m) in
@@ -283,12 +285,11 @@ module _ (m : List ℕ) (len : length m ≡ 5892) (isBits : bits m ≡ true) whe
   unfolding last_sum_fits
   last_sum = rw (eq-eqb _ _ sum-equal)
 
-  fuse-sum : fuse_sum_fits (hex4_of (hex4 (fuse_sum m))) m ≡ true
+  fuse-sum : fuse_sum_fits (Some (hex4_of (hex4 (fuse_sum m)))) m ≡ true
   unfolding fuse_sum_fits
   fuse-sum =
       let back : hex4_of (hex4 (fuse_sum m)) ≡ fuse_sum m % 65536 = hex4_back (fuse_sum m) in
-      let k : hex4_of (hex4 (fuse_sum m)) ≡ 65536 → ⊥ = (λ e. omega arith) in
-      rw (ne_eqb _ _ k, eq-eqb _ _ (sym back))
+      rw (eq-eqb _ _ (sym back))
 
   trip-by : (w : Walks s₄ 41 m 5892 0 (lists m)) → read_of (file_of m) ≡ gives m
   trip-by w =
@@ -296,16 +297,16 @@ module _ (m : List ℕ) (len : length m ≡ 5892) (isBits : bits m ≡ true) whe
       let z : ℕ = length B in
       let v : ℕ = hex4_of (hex4 (fuse_sum m)) in
       let seen : Seen = saw_c w.seen v in
-      let full : filled w.seen.f w.cells ≡ m =
-      ap (λ (f : ℕ). filled f w.cells) w.f ∙ w.holds ∙ append-nil (take 5892 m) ∙ take_all 5892 m (omega arith) in
+      let full : filled (unwrap_or w.seen.f 2) w.cells ≡ m =
+      ap (λ (f : Option ℕ). filled (unwrap_or f 2) w.cells) w.f ∙ w.holds ∙ append-nil (take 5892 m) ∙ take_all 5892 m (omega arith) in
       sym (read_open s z 13 (omega (arith, length-s, length-B)) first (sym (ap length ends)) heading)
       ∙ sym (opened_star s z 13 (omega (arith, large-B)))
       ∙ ap (closing s z) (fields-end w)
       ∙ sym (closing_ending s z seen w.cells (omega (arith, length-s)))
       ∙ sym (ending_fine s z seen w.cells (omega (arith, H-front)) (omega (arith, ap length after)))
       ∙ sym (whole_full s z seen w.cells w.qf (ap bits full ∙ isBits))
-      ∙ ap (summed s z v) full
-      ∙ sym (summed_fine s z v m fuse-sum last_sum)
+      ∙ ap (summed s z (Some v)) full
+      ∙ sym (summed_fine s z (Some v) m fuse-sum last_sum)
 
   pub whole_trip : read_of (file_of m) ≡ gives m
   unfolding lists

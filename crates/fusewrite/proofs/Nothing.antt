@@ -6,7 +6,8 @@ use Prim.Native.Nat.{ℕ}
 use native.Mathlib.Omega.{arith}
 use lib.ListN.{length, drop, get_or, replicate}
 use Rattle.fusetext.specs.File.{is_map, opening, fields_of, body, file_of}
-use Rattle.fusewrite.specs.declared.Written.{Written}
+use Rattle.std.specs.Prelude.{Result}
+use Rattle.basics.specs.declared.refusal.Refusal.{Refusal}
 use Rattle.fusewrite.specs.Writing.{write_of, Writes}
 
 -- a file starts with byte 2
@@ -15,7 +16,7 @@ unfolding file_of body fields_of opening
 starts map rest = refl
 
 -- whatever a call answers, it did not leave an output of zeros as it was
-pub nothing_written : (map : List ℕ) (answer : Written) → is_map map ≡ true → Writes map (replicate 7154 0) answer (replicate 7154 0) → ⊥
+pub nothing_written : (map : List ℕ) (answer : Result ℕ Refusal) → is_map map ≡ true → Writes map (replicate 7154 0) answer (replicate 7154 0) → ⊥
 unfolding write_of
 nothing_written map answer m w =
     let e : replicate 7154 0 ≡ file_of map ++ drop (length (file_of map)) (replicate 7154 0) = w.leaves ∙ rw m in

@@ -6,15 +6,14 @@ ghost use Rattle.fusetext.specs.Put.{Wrote};
 ghost use Rattle.fusetext.specs.File.{listing_if, rows, checking, fields_of, file_of, Bits};
 ghost use Rattle.fusewrite.specs.Writing.{Writes};
 
+use basics::refusal::{Reason, Refusal};
 use fusetext::field::{put_hex4, put_listing, put_text};
 use fusetext::scan::{is_bits, is_zero, sum_of, weigh_of};
 
-// The file's length, or a refusal.
-#[derive(Clone, Copy)]
-pub enum Written {
-    File { len: usize },
-    Refused { number: u8, place: usize },
-}
+// A map's fuses, and the most bytes that its file can have.
+const FUSES: usize = 5892;
+
+const LONGEST: usize = 7154;
 
 // An L field, unless its fuses are all 0.
 fn put_listing_if(from: usize, fuses: &[u8], out: &mut [u8], at: usize) -> usize
@@ -23,9 +22,10 @@ fn put_listing_if(from: usize, fuses: &[u8], out: &mut [u8], at: usize) -> usize
     ensures { Wrote out.old at (listing_if from fuses.now) out.new result }
 {
     if is_zero(fuses) {
-        return at;
+        at
+    } else {
+        put_listing(from, fuses, out, at)
     }
-    put_listing(from, fuses, out, at)
 }
 
 // The rows that aren't all 0.
@@ -35,13 +35,11 @@ fn put_rows(map: &[u8], out: &mut [u8], at: usize) -> usize
     requires bits { Bits map.now }
     ensures { Wrote out.old at (rows 132 map.now) out.new result }
 {
-    let mut r = 0;
     let mut o = at;
-    while r < 132 {
+    for r in 0..132 {
         let from = 44 * r;
         let to = from + 44;
         o = put_listing_if(from, &map[from..to], out, o);
-        r += 1;
     }
     o
 }
@@ -91,28 +89,14 @@ fn put_file(map: &[u8], out: &mut [u8]) -> usize
 }
 
 // Writes the fuse file of map into out and answers its length, or refuses and leaves out as it was.
-pub fn write(map: &[u8], out: &mut [u8]) -> Written
+pub fn write(map: &[u8], out: &mut [u8]) -> Result<usize, Refusal>
     ensures { Writes map.now out.old result out.new }
 {
-    if map.len() != 5892 {
-        return Written::Refused {
-            number: 31,
-            place: 0,
-        };
+    if map.len() != FUSES || !is_bits(map) {
+        return Err(Refusal::new(Reason::Map, 0));
     }
-    if !is_bits(map) {
-        return Written::Refused {
-            number: 31,
-            place: 0,
-        };
+    if out.len() < LONGEST {
+        return Err(Refusal::new(Reason::Memory, 0));
     }
-    if out.len() < 7154 {
-        return Written::Refused {
-            number: 13,
-            place: 0,
-        };
-    }
-    Written::File {
-        len: put_file(map, out),
-    }
+    Ok(put_file(map, out))
 }

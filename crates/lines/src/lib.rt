@@ -3,24 +3,28 @@
 
 ghost use Rattle.std.specs.Prelude.{◌≡◌, ℕ, ◌+◌, ◌≤◌, ◌<◌, length, drop, eqb};
 ghost use Rattle.basics.specs.Choice.{pick};
+ghost use Rattle.basics.specs.Refusal.{number_of};
 ghost use Rattle.fusetext.specs.Put.{Wrote};
 ghost use Rattle.lines.specs.Decimal.{decimal, refusal_line};
 ghost use Rattle.lines.specs.Line.{line_length, fuses_in, shown, shown_line};
 
+use basics::refusal::Refusal;
 use fusetext::field::put_text;
 
+// Kept: digits are written one by one, since `write!` would need a cursor over the lent bytes and an error for when they are full, where
+// this needs neither.
 // The digits of n at the end of digits, and where they begin.
 fn spell(n: usize, digits: &mut [u8]) -> usize
     requires { length digits.old ≡ 20 }
     ensures { (drop result digits.new ≡ decimal n) × (result ≤ 19) }
 {
-    digits[19] = 48 + (n % 10) as u8;
+    digits[19] = b'0' + (n % 10) as u8;
     let mut i = 19;
     let mut rest = n / 10;
     while 0 < rest {
         i -= 1;
-        digits[i] = 48 + (rest % 10) as u8;
-        rest = rest / 10;
+        digits[i] = b'0' + (rest % 10) as u8;
+        rest /= 10;
     }
     i
 }
@@ -35,7 +39,7 @@ pub fn put_decimal(n: usize, out: &mut [u8], at: usize) -> usize
     put_text(&digits[i..], out, at)
 }
 
-// A refusal's line.
+// The line of a refusal's number and place.
 pub fn put_refusal(number: u8, place: usize, out: &mut [u8], at: usize) -> usize
     requires { at + 42 ≤ length out.old }
     ensures { Wrote out.old at (refusal_line number place) out.new result }
@@ -46,36 +50,35 @@ pub fn put_refusal(number: u8, place: usize, out: &mut [u8], at: usize) -> usize
     put_text(b"\n", out, c)
 }
 
+// A refusal's line.
+pub fn put_refused(refusal: Refusal, out: &mut [u8], at: usize) -> usize
+    requires { at + 42 ≤ length out.old }
+    ensures { Wrote out.old at (refusal_line (number_of refusal.reason) refusal.place) out.new result }
+{
+    put_refusal(refusal.reason.number(), refusal.place, out, at)
+}
+
 // How long a line is without its LF, and without a CR before that.
+#[tactic(auto, using(std::proofs::lemmas::Grind::common_steps, crate::proofs::Ends::line_none, crate::proofs::Ends::line_one), unfolding(crate::specs::Line::line_length))]
 pub fn line_length(s: &[u8]) -> usize
     ensures { (result ≡ line_length s.now) × (result ≤ length s.now) }
 {
-    let n = s.len();
-    if n < 1 {
-        return n;
+    match s {
+        [.., b'\r', b'\n'] => s.len() - 2,
+        [.., b'\n'] => s.len() - 1,
+        _ => s.len(),
     }
-    if s[n - 1] != 10 {
-        return n;
-    }
-    if n < 2 {
-        return n - 1;
-    }
-    if s[n - 2] != 13 {
-        return n - 1;
-    }
-    n - 2
 }
 
+#[tactic(auto, using(std::proofs::lemmas::Grind::common_steps))]
 fn fuse_in(b: u8) -> u8
     ensures { result ≡ pick (eqb b 48) 0 (pick (eqb b 49) 1 2) }
 {
-    if b == 48 {
-        return 0;
+    match b {
+        b'0' => 0,
+        b'1' => 1,
+        _ => 2,
     }
-    if b == 49 {
-        return 1;
-    }
-    2
 }
 
 // The fuses that the digits of src stand for, into out; 2 for a byte that is none.
@@ -83,21 +86,17 @@ pub fn put_fuses_in(src: &[u8], out: &mut [u8]) -> usize
     requires { length src.now ≤ length out.old }
     ensures { Wrote out.old 0 (fuses_in src.now) out.new result }
 {
-    let mut j = 0;
-    while j < src.len() {
+    for j in 0..src.len() {
         out[j] = fuse_in(src[j]);
-        j += 1;
     }
-    j
+    src.len()
 }
 
+#[tactic(auto, using(std::proofs::lemmas::Grind::common_steps))]
 fn digit_of(x: u8) -> u8
     ensures { result ≡ pick (eqb x 1) 49 48 }
 {
-    if x == 1 {
-        return 49;
-    }
-    48
+    if x == 1 { b'1' } else { b'0' }
 }
 
 // The fuses of src as digits.
@@ -105,12 +104,10 @@ fn put_shown(src: &[u8], out: &mut [u8]) -> usize
     requires { length src.now ≤ length out.old }
     ensures { Wrote out.old 0 (shown src.now) out.new result }
 {
-    let mut j = 0;
-    while j < src.len() {
+    for j in 0..src.len() {
         out[j] = digit_of(src[j]);
-        j += 1;
     }
-    j
+    src.len()
 }
 
 // The fuses of src as a line of digits.

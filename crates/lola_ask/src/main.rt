@@ -3,7 +3,6 @@
 // arguments it reads nothing and prints only its usage, on standard error.
 #![tactic(auto)]
 
-use numerals::Numeral;
 use std::env::{Env, FillError};
 use std::io;
 use std::io::Write;
@@ -24,11 +23,11 @@ fn usage(rt: &HostRuntime) -> io::Result<()> {
 }
 
 // Argument i as a number. Linux passes none of more than 131,071 bytes.
-fn argument(rt: &HostRuntime, i: usize) -> Numeral {
+fn argument(rt: &HostRuntime, i: usize) -> Option<usize> {
     let mut word = [0u8; 131072];
     match rt.arg(i, &mut word) {
         Ok(n) => numerals::number_of(&word[..n]),
-        Err(_) => Numeral::Nothing,
+        Err(_) => None,
     }
 }
 
@@ -43,9 +42,7 @@ fn main(rt: HostRuntime) -> io::Result<()> {
         return usage(&rt);
     }
     match (argument(&rt, 1), argument(&rt, 2)) {
-        (Numeral::Number { value: pin }, Numeral::Number { value: product }) => {
-            answer_input(&rt, pin, product)
-        }
+        (Some(pin), Some(product)) => answer_input(&rt, pin, product),
         _ => usage(&rt),
     }
 }

@@ -17,10 +17,8 @@ fn rank_of(m: &[u8], i: usize) -> u8
     ensures { result ≡ rank_in m.now i }
 {
     let mut n: u8 = 0;
-    let mut j: usize = 0;
-    while j < 64 {
-        n = n + basics::byte_of(trees::named(m, i * 64 + j));
-        j += 1;
+    for j in 0..64 {
+        n += basics::byte_of(trees::named(m, i * 64 + j));
     }
     n
 }
@@ -31,10 +29,8 @@ pub fn ranks(m: &[u8]) -> [u8; 64]
     ensures { result ≡ listed (rank_in m.now) 64 }
 {
     let mut out = [0u8; 64];
-    let mut i: usize = 0;
-    while i < 64 {
+    for i in 0..64 {
         out[i] = rank_of(m, i);
-        i += 1;
     }
     out
 }
@@ -43,10 +39,7 @@ pub fn ranks(m: &[u8]) -> [u8; 64]
 pub fn byte_at(s: &[u8], k: usize) -> usize
     ensures { result ≡ get_or s.now k 0 }
 {
-    if k < s.len() {
-        return s[k] as usize;
-    }
-    0
+    if k < s.len() { s[k] as usize } else { 0 }
 }
 
 // Element p % 64 is replaced and has rank p / 64.
@@ -54,10 +47,7 @@ fn is_turn(parts: &[u32], ranks: &[u8], p: usize) -> bool
     ensures { result ≡ its_turn (elements_of parts.now) ranks.now p }
 {
     let i = p % 64;
-    if byte_at(ranks, i) == p / 64 {
-        return reach::is_replaced(parts, i);
-    }
-    false
+    byte_at(ranks, i) == p / 64 && reach::is_replaced(parts, i)
 }
 
 // Element p % 64 stands behind the n before it if its turn has come.
@@ -68,9 +58,10 @@ fn order_one(parts: &[u32], ranks: &[u8], out: &mut [u8], n: usize, p: usize) ->
 {
     if is_turn(parts, ranks, p) {
         out[n] = (p % 64) as u8;
-        return n + 1;
+        n + 1
+    } else {
+        n
     }
-    n
 }
 
 // The elements that are replaced, by rank.
@@ -79,10 +70,8 @@ pub fn order(parts: &[u32], ranks: &[u8], out: &mut [u8]) -> usize
     ensures { Ordered (elements_of parts.now) ranks.now out.new result }
 {
     let mut n: usize = 0;
-    let mut p: usize = 0;
-    while p < 4160 {
+    for p in 0..4160 {
         n = order_one(parts, ranks, out, n, p);
-        p += 1;
     }
     n
 }
@@ -92,9 +81,7 @@ pub fn value_in(parts: &[u32], i: usize, vals: &[u8], q: bool) -> bool
     requires { i < 64 }
     ensures { result ≡ value_of (env_of vals.now) q (nodes_at parts.now i) }
 {
-    let first = trees::first_of(parts, i);
-    let end = trees::end_of(parts, i);
-    trees::value_of(&parts[first..end], vals, q)
+    trees::value_of(trees::nodes_of(parts, i), vals, q)
 }
 
 // Element i is given its value.
@@ -105,7 +92,6 @@ fn settle_one(vals: &mut [u8], parts: &[u32], i: usize)
     if i < 64 {
         let v = value_in(parts, i, vals, false);
         vals[i] = basics::byte_of(v);
-        return;
     }
 }
 
@@ -114,9 +100,7 @@ pub fn settle(vals: &mut [u8], parts: &[u32], order: &[u8])
     requires { length vals.old ≡ 64 }
     ensures { vals.new ≡ settle_all (elements_of parts.now) vals.old order.now }
 {
-    let mut k: usize = 0;
-    while k < order.len() {
-        settle_one(vals, parts, order[k] as usize);
-        k += 1;
+    for &i in order {
+        settle_one(vals, parts, i as usize);
     }
 }

@@ -1,6 +1,6 @@
 -- The table's names are the equation's. Assumes nothing.
 use mathlib.Core.Path.{◌≡◌, refl, sym, ap, ap₂, ◌∙◌, subst}
-use mathlib.Core.Bool.{Bool, false, ◌&&◌, ◌||◌}
+use mathlib.Core.Bool.{Bool, true, false, ◌&&◌, ◌||◌}
 use mathlib.Core.List.{List}
 use Prim.Native.Nat.{ℕ, ◌<◌}
 use lib.Dec.{eqb}
@@ -48,3 +48,10 @@ module _ (e : Elements) (d m z : List ℕ) (o : ℕ) (ho : o < 64) (ez : z ≡ r
 -- an entry of the row
 pub row_at : (e : Elements) (row : List ℕ) (o j : ℕ) → row ≡ listed (λ j. bit (mentions e o j)) 64 → j < 64 → on (get_or row j 0) ≡ mentions e o j
 row_at e _ o j q h = ap (λ (l : List ℕ). on (get_or l j 0)) q ∙ ap on (listed_at (λ j. bit (mentions e o j)) 64 j h) ∙ on_bit (mentions e o j)
+
+-- where a test answers a disjunction: it passes, or it does not and another is made
+pub or_then : (a b c : Bool) → a ≡ b → a ≡ true → a ≡ (b || c)
+or_then a b c e t = t ∙ ap (λ (x : Bool). x || c) (sym t ∙ e)
+
+pub or_else : (a b c d : Bool) → a ≡ b → a ≡ false → d ≡ c → d ≡ (b || c)
+or_else a b c d e f q = q ∙ ap (λ (x : Bool). x || c) (sym f ∙ e)

@@ -18,24 +18,16 @@ const RISING_PINS: [usize; 22] = [
 ];
 
 // The pin of variable i.
+#[tactic(auto, unfolding(crate::specs::Variables::variable_pin))]
 pub fn variable_pin(rows: bool, i: usize) -> usize
     requires { i < 22 }
     ensures { result ≡ variable_pin rows i }
 {
     if rows {
-        return device::column(21 - i) as usize;
+        device::column(21 - i) as usize
+    } else {
+        RISING_PINS[i]
     }
-    RISING_PINS[i]
-}
-
-// Both bytes say yes.
-fn both_one(d: &[u8], p: usize, m: &[u8], q: usize) -> bool
-    ensures { result ≡ env_of d.now p && env_of m.now q }
-{
-    if trees::named(d, p) {
-        return trees::named(m, q);
-    }
-    false
 }
 
 // Element j is written in the equation of o, or met from one that is.
@@ -44,17 +36,8 @@ fn is_named(d: &[u8], m: &[u8], o: usize, j: usize) -> bool
     requires j_bound { j < 64 }
     ensures { result ≡ named_in d.now m.now o j }
 {
-    if trees::named(d, o * 64 + j) {
-        return true;
-    }
-    let mut k: usize = 0;
-    while k < 64 {
-        if both_one(d, o * 64 + k, m, k * 64 + j) {
-            return true;
-        }
-        k += 1;
-    }
-    false
+    trees::named(d, o * 64 + j)
+        || circuit::find(|k| trees::named(d, o * 64 + k) && trees::named(m, k * 64 + j)).is_some()
 }
 
 fn named_row(d: &[u8], m: &[u8], o: usize) -> [u8; 64]
@@ -62,10 +45,8 @@ fn named_row(d: &[u8], m: &[u8], o: usize) -> [u8; 64]
     ensures { result ≡ listed (λ j. bit (named_in d.now m.now o j)) 64 }
 {
     let mut a = [0u8; 64];
-    let mut j: usize = 0;
-    while j < 64 {
+    for j in 0..64 {
         a[j] = basics::byte_of(is_named(d, m, o, j));
-        j += 1;
     }
     a
 }
@@ -82,21 +63,13 @@ fn mentioned(parts: &[u32], m: &[u8], o: usize) -> [u8; 64]
 }
 
 // An element that remains is at pin p, and is mentioned.
+#[tactic(auto, using(crate::proofs::Naming::row_at))]
 fn is_at(parts: &[u32], row: &[u8; 64], o: usize, p: usize, j: usize) -> bool
     requires row_value { row.now ≡ listed (λ j. bit (mentions (elements_of parts.now) o j)) 64 }
     requires j_bound { j < 64 }
     ensures { result ≡ mentions_at (elements_of parts.now) o p j }
 {
-    if reach::is_remaining(parts, j) {
-        if trees::at(parts, trees::PIN_AT + j) == p {
-            if row[j] == 1 {
-                return true;
-            }
-            return false;
-        }
-        return false;
-    }
-    false
+    reach::is_remaining(parts, j) && trees::at(parts, trees::PIN_AT + j) == p && row[j] == 1
 }
 
 // A two-part REG names its own pin.
@@ -104,13 +77,7 @@ fn is_own(parts: &[u32], o: usize, p: usize) -> bool
     requires { o < 64 }
     ensures { result ≡ keeps (nodes_at parts.now o) && eqb (get_or parts.now (2432 + o) 0) p }
 {
-    if reach::keeping(parts, o) {
-        if trees::at(parts, trees::PIN_AT + o) == p {
-            return true;
-        }
-        return false;
-    }
-    false
+    reach::keeping(parts, o) && trees::at(parts, trees::PIN_AT + o) == p
 }
 
 // The equation of o names pin p.
@@ -119,74 +86,52 @@ fn is_named_pin(parts: &[u32], row: &[u8; 64], o: usize, p: usize) -> bool
     requires o_bound { o < 64 }
     ensures { result ≡ names_pin (elements_of parts.now) o p }
 {
-    let mut j: usize = 0;
-    while j < 64 {
-        if is_at(parts, row, o, p, j) {
-            return true;
-        }
-        j += 1;
-    }
-    is_own(parts, o, p)
+    circuit::find(|j| is_at(parts, row, o, p, j)).is_some() || is_own(parts, o, p)
 }
 
-// One more variable behind n others, if it is named.
-fn push(vars: &mut [u8], n: usize, x: usize, named: bool) -> usize
-    requires n_in_bounds { n < length vars.old }
-    requires n_bound { n < 22 }
-    requires x_bound { x < 24 }
-    ensures { (result ≡ pick named (n + 1) n) × (vars.new ≡ pick named (set vars.old n x) vars.old) }
-{
-    if named {
-        vars[n] = x as u8;
-        return n + 1;
-    }
-    n
-}
-
-fn weight_if(named: bool, w: u32) -> u32
-    ensures { result ≡ pick named w 0 }
-{
-    if named {
-        return w;
-    }
-    0
-}
-
-// How many variables are named, and which of the 22.
+// The variables that an equation names: their pins, how many there are, and which of the 22.
 #[derive(Clone, Copy)]
 pub struct Chosen {
+    pub vars: [u8; 22],
     pub count: usize,
     pub mask: u32,
 }
 
-fn choose(parts: &[u32], row: &[u8; 64], rows: bool, o: usize, vars: &mut [u8]) -> Chosen
+impl Chosen {
+    // The pins of the variables.
+    pub fn pins(&self) -> &[u8]
+        requires { self.now.count ≤ 22 }
+        ensures { result.now ≡ take self.now.count self.now.vars }
+    {
+        &self.vars[..self.count]
+    }
+}
+
+fn choose(parts: &[u32], row: &[u8; 64], rows: bool, o: usize) -> Chosen
     requires row_value { row.now ≡ listed (λ j. bit (mentions (elements_of parts.now) o j)) 64 }
     requires o_bound { o < 64 }
-    requires vars_len { length vars.old ≡ 22 }
-    ensures { Variables (elements_of parts.now) rows o vars.new result.count result.mask }
+    ensures { Variables (elements_of parts.now) rows o result.vars result.count result.mask }
 {
-    let mut n: usize = 0;
+    let mut vars = [0u8; 22];
+    let mut count: usize = 0;
     let mut mask: u32 = 0;
-    let mut weight: u32 = 1;
-    let mut i: usize = 0;
-    while i < 22 {
+    for i in 0..22 {
         let p = variable_pin(rows, i);
-        let named = is_named_pin(parts, row, o, p);
-        n = push(vars, n, p, named);
-        mask = mask + weight_if(named, weight);
-        weight = weight * 2;
-        i += 1;
+        if is_named_pin(parts, row, o, p) {
+            vars[count] = p as u8;
+            count += 1;
+            mask += 1 << i;
+        }
     }
-    Chosen { count: n, mask }
+    Chosen { vars, count, mask }
 }
 
 // The variables of the table of o.
-pub fn variables(parts: &[u32], m: &[u8], rows: bool, o: usize, vars: &mut [u8]) -> Chosen
+pub fn variables(parts: &[u32], m: &[u8], rows: bool, o: usize) -> Chosen
     requires matrix { Matrix m.now (via (uses (elements_of parts.now)) 64) }
     requires o_bound { o < 64 }
-    requires vars_len { length vars.old ≡ 22 }
-    ensures { Variables (elements_of parts.now) rows o vars.new result.count result.mask }
+    ensures { Variables (elements_of parts.now) rows o result.vars result.count result.mask }
 {
     let row = mentioned(parts, m, o);
-    choose(parts, &row, rows, o, vars)
+    choose(parts, &row, rows, o)
 }

@@ -1,11 +1,11 @@
 -- The loop that fills a table. Assumes nothing.
 use mathlib.Core.Path.{◌≡◌, refl, sym, ap, ◌∙◌}
 use mathlib.Core.Logic.{⊎_elim}
-use mathlib.Core.List.{List, [], ◌∷◌, ◌++◌}
+use mathlib.Core.List.{List, ◌++◌}
 use Prim.Native.Nat.{ℕ, ◌+◌, ◌-◌, ◌^◌, ◌≤◌, ◌<◌}
 use native.Mathlib.Omega.{arith}
-use lib.Dec.{eqb, leb}
-use borrow.Author.Tests.{eqb-true, leb-true}
+use lib.Dec.{leb}
+use borrow.Author.Tests.{leb-true}
 use lib.ListN.{length, get_or, set, drop, length-set, length-append, length-drop, get_or-append}
 use lib.Seq.{ext_get_or, get_or-drop, get_or-append-add}
 use Rattle.basics.specs.Below.{listed, all_below}
@@ -62,13 +62,6 @@ filling_end f t₀ t size k h l c = ext_get_or 0 t (listed f size ++ drop size t
             ∙ ap (λ (i : ℕ). get_or t₀ i 0) w
 
 -- powers of two
-abbrev pub powers : List ℕ
-powers = 1 ∷ 2 ∷ 4 ∷ 8 ∷ 16 ∷ 32 ∷ 64 ∷ 128 ∷ 256 ∷ 512 ∷ 1024 ∷ []
-
-pub power_at : (n : ℕ) → n < 11 → get_or powers n 0 ≡ 2 ^ n
-unfolding all_below
-power_at n h = eqb-true (get_or powers n 0) (2 ^ n) (all_at (λ k. eqb (get_or powers k 0) (2 ^ k)) 11 refl n h)
-
 pub power_fits : (n x : ℕ) → n < 11 → x ≡ 2 ^ n → x ≤ 1024
 unfolding all_below
 power_fits n x h e = let a : 2 ^ n ≤ 1024 = leb-true (2 ^ n) 1024 (all_at (λ k. leb (2 ^ k) 1024) 11 refl n h) in omega arith

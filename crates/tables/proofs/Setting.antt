@@ -1,7 +1,7 @@
 -- The pins of a setting, in a list. Assumes nothing.
 use mathlib.Core.Path.{◌≡◌, refl, sym, ap, ap₂, ◌∙◌, fun_ext}
 use mathlib.Core.Logic.{⊎_elim}
-use mathlib.Core.Bool.{Bool, true, false}
+use mathlib.Core.Bool.{Bool, true, false, not, beq}
 use mathlib.Core.List.{List, [], ◌∷◌}
 use Prim.Native.Nat.{ℕ, suc, ◌+◌, ◌/◌, ◌%◌, ◌≤◌, ◌<◌}
 use native.Mathlib.Numerals.{add-one}
@@ -18,6 +18,13 @@ use Rattle.trees.specs.Machine.{env_of}
 use Rattle.trees.specs.Layout.{Elements}
 use Rattle.trees.proofs.Stack.{on_bit}
 use Rattle.tables.specs.Tables.{flip_at, set_bits}
+
+-- what `!=` answers
+pub differs : (a b : Bool) → not (beq a b) ≡ xor a b
+differs true true = refl
+differs true false = refl
+differs false true = refl
+differs false false = refl
 
 bits_cons : (flip s : ℕ → Bool) (x : ℕ) (xs : List ℕ) (k : ℕ) → set_bits flip s (x ∷ xs) k ≡ set_bits flip (λ p. pick (eqb p x) (xor (flip x) (on (k % 2))) (s p)) xs (k / 2)
 unfolding set_bits

@@ -2,11 +2,10 @@
 use mathlib.Core.Path.{◌≡◌, sym, ap, ap₂, ◌∙◌}
 use mathlib.Core.Bool.{Bool, true, false}
 use mathlib.Core.List.{List, ◌++◌}
-use Prim.Native.Nat.{ℕ, ◌-◌, ◌^◌, ◌≤◌, ◌<◌}
-use native.Mathlib.Omega.{arith}
+use Prim.Native.Nat.{ℕ, ◌^◌, ◌≤◌, ◌<◌}
 use lib.Dec.{leb}
 use borrow.Author.Tests.{le-leb, lt-leb}
-use lib.ListN.{take, drop}
+use lib.ListN.{drop}
 use Rattle.basics.specs.Choice.{bit, pick}
 use Rattle.basics.specs.Below.{listed}
 use Rattle.trees.specs.Layout.{Elements}
@@ -40,10 +39,3 @@ module _ (e : Elements) (rows : Bool) (o n : ℕ) (en : n ≡ count_of e rows o)
       q
       ∙ ap₂ (λ (l : List ℕ) (s : ℕ). listed (λ k. bit (outcome e rows o (setting_at e rows l k))) s ++ drop s t) ev (es ∙ ap (λ (k : ℕ). 2 ^ k) en)
       ∙ sym (ap (λ (b : Bool). pick b (listed (λ k. bit (entry_of e rows o k)) (2 ^ count_of e rows o) ++ drop (2 ^ count_of e rows o) t) t) (in_reach h))
-
--- a part from the start
-pub from_start : (l : List ℕ) (n : ℕ) → take (n - 0) l ≡ take n l
-from_start l n = ap (λ (k : ℕ). take k l) none
-  where
-    none : n - 0 ≡ n
-    none = omega arith

@@ -1,9 +1,10 @@
 // Truth tables of an OUT's function, over the variables that it names.
 #![tactic(auto)]
 
-ghost use Rattle.std.specs.Prelude.{◌≡◌, Bool, true, false, not, ◌&&◌, ◌||◌, List, ◌++◌, ℕ, ◌+◌, ◌-◌, ◌*◌, ◌/◌, ◌%◌, ◌^◌, ◌<◌, ◌≤◌, eqb, length, get_or, set, take, drop};
-ghost use Rattle.basics.specs.Choice.{pick, bit, on, xor};
+ghost use Rattle.std.specs.Prelude.{IfSome, IfErr, ◌≡◌, Bool, true, false, not, ◌&&◌, ◌||◌, List, ◌++◌, ℕ, ◌+◌, ◌-◌, ◌*◌, ◌/◌, ◌%◌, ◌^◌, ◌<◌, ◌≤◌, eqb, length, get_or, set, take, drop};
+ghost use Rattle.basics.specs.Choice.{pick, bit, on, xor, found_or};
 ghost use Rattle.basics.specs.Below.{listed};
+ghost use Rattle.basics.specs.declared.refusal.Reason.{Reason};
 ghost use Rattle.trees.specs.Machine.{env_of};
 ghost use Rattle.trees.specs.Layout.{Elements, elements_of, class_of, nodes_at};
 ghost use Rattle.reach.specs.Uses.{uses};
@@ -18,96 +19,57 @@ ghost use Rattle.tables.specs.Tables.{flip_at, set_bits, setting_at, outcome, ta
 ghost use Rattle.tables.specs.Memory.{InOrder, Pins};
 ghost use Rattle.tables.specs.Answered.{seen};
 
-// How many variables a table has and which of the 22, or where the name is declared whose equation names too many pins.
-#[derive(Clone, Copy)]
-pub enum Answer {
-    Table { count: usize, mask: u32 },
-    TooMany { place: usize },
-}
-
-const POWERS: [usize; 11] = [1, 2, 4, 8, 16, 32, 64, 128, 256, 512, 1024];
+use basics::refusal::{Reason, Refusal};
+use pins::Chosen;
+use trees::Class;
 
 // How many settings n variables have.
 pub fn power(n: usize) -> usize
     requires { n < 11 }
     ensures { result ≡ 2 ^ n }
 {
-    POWERS[n]
-}
-
-// One of two, not both.
-fn differ(a: bool, b: bool) -> bool
-    ensures { result ≡ xor a b }
-{
-    if a {
-        return !b;
-    }
-    b
-}
-
-fn is_odd(k: usize) -> bool
-    ensures { result ≡ on (k % 2) }
-{
-    if k % 2 == 1 {
-        return true;
-    }
-    false
+    1 << n
 }
 
 // Element i is an OUT at pin p.
+#[tactic(auto, using(trees::proofs::Classes::numbers))]
 fn is_out_at(parts: &[u32], p: usize, i: usize) -> bool
     requires { i < 64 }
     ensures { result ≡ eqb (class_of parts.now i) 2 && eqb (get_or parts.now (2432 + i) 0) p }
 {
-    if reach::class_of(parts, i) == 2 {
-        if trees::at(parts, trees::PIN_AT + i) == p {
-            return true;
-        }
-        return false;
-    }
-    false
+    matches!(reach::class_of(parts, i), Some(Class::Out))
+        && trees::at(parts, trees::PIN_AT + i) == p
 }
 
-// The OUT at pin p, 64 where there is none.
-pub fn out_at(parts: &[u32], p: usize) -> usize
-    ensures { result ≡ out_at (elements_of parts.now) p }
+// The OUT at pin p.
+pub fn out_at(parts: &[u32], p: usize) -> Option<usize>
+    ensures found { found_or 64 result ≡ out_at (elements_of parts.now) p }
+    ensures inside { IfSome result (λ i. i < 64) }
 {
-    let mut i: usize = 0;
-    while i < 64 {
-        if is_out_at(parts, p, i) {
-            return i;
-        }
-        i += 1;
-    }
-    64
+    circuit::find(|i| is_out_at(parts, p, i))
 }
 
 // Whether the variable of pin p is the complement of the pin's value.
+#[tactic(auto, unfolding(crate::specs::Tables::flip_at))]
 fn is_flipped(parts: &[u32], rows: bool, p: usize) -> bool
     requires { p < 24 }
     ensures { result ≡ flip_at (elements_of parts.now) rows p }
 {
-    if rows {
-        let o = out_at(parts, p);
-        if o < 64 {
-            if reach::registered(parts, o) {
-                return reach::inverse(parts, o);
-            }
-            return true;
-        }
-        return true;
+    if !rows {
+        return false;
     }
-    false
+    match out_at(parts, p) {
+        Some(o) => !reach::registered(parts, o) || reach::inverse(parts, o),
+        None => true,
+    }
 }
 
 fn flips(parts: &[u32], rows: bool) -> [u8; 24]
     ensures { result ≡ listed (λ p. bit (flip_at (elements_of parts.now) rows p)) 24 }
 {
     let mut a = [0u8; 24];
-    let mut p: usize = 0;
-    while p < 24 {
+    for p in 0..24 {
         a[p] = basics::byte_of(is_flipped(parts, rows, p));
-        p += 1;
     }
     a
 }
@@ -118,14 +80,11 @@ fn pins_of(flips: [u8; 24], vars: &[u8], k: usize) -> [u8; 24]
     ensures { env_of result ≡ set_bits (env_of flips) (env_of flips) vars.now k }
 {
     let mut pins = flips;
-    let mut i: usize = 0;
     let mut left = k;
-    while i < vars.len() {
-        let x = meaning::byte_at(vars, i);
-        let b = differ(trees::named(&flips, x), is_odd(left));
-        pins[x] = basics::byte_of(b);
-        left = left / 2;
-        i += 1;
+    for &var in vars {
+        let x = var as usize;
+        pins[x] = basics::byte_of(trees::named(&flips, x) != (left % 2 == 1));
+        left /= 2;
     }
     pins
 }
@@ -135,20 +94,15 @@ fn is_known(parts: &[u32], pins: &[u8], i: usize) -> bool
     requires { i < 64 }
     ensures { result ≡ known (elements_of parts.now) (env_of pins.now) i }
 {
-    if reach::is_remaining(parts, i) {
-        return trees::named(pins, trees::at(parts, trees::PIN_AT + i));
-    }
-    false
+    reach::is_remaining(parts, i) && trees::named(pins, trees::at(parts, trees::PIN_AT + i))
 }
 
 fn known_values(parts: &[u32], pins: &[u8]) -> [u8; 64]
     ensures { result ≡ listed (λ i. bit (known (elements_of parts.now) (env_of pins.now) i)) 64 }
 {
     let mut a = [0u8; 64];
-    let mut i: usize = 0;
-    while i < 64 {
+    for i in 0..64 {
         a[i] = basics::byte_of(is_known(parts, pins, i));
-        i += 1;
     }
     a
 }
@@ -172,11 +126,8 @@ fn result(parts: &[u32], rows: bool, o: usize, pins: &[u8; 24], vals: &[u8; 64])
 {
     let inverted = reach::inverse(parts, o);
     let shown = trees::named(pins, trees::at(parts, trees::PIN_AT + o));
-    let v = meaning::value_in(parts, o, vals, differ(inverted, shown));
-    if rows {
-        return differ(inverted, v);
-    }
-    v
+    let v = meaning::value_in(parts, o, vals, inverted != shown);
+    if rows { inverted != v } else { v }
 }
 
 // Entry k of the table of o.
@@ -220,11 +171,8 @@ fn fill(
     requires size_in_bounds { size ≤ length t.old }
     ensures { t.new ≡ listed (λ k. bit (outcome (elements_of parts.now) rows o (setting_at (elements_of parts.now) rows vars.now k))) size ++ drop size t.old }
 {
-    let mut k: usize = 0;
-    while k < size {
-        let b = entry(parts, order, flips, vars, rows, o, k);
-        t[k] = basics::byte_of(b);
-        k += 1;
+    for k in 0..size {
+        t[k] = basics::byte_of(entry(parts, order, flips, vars, rows, o, k));
     }
 }
 
@@ -244,44 +192,46 @@ fn tabulate(t: &mut [u8], size: usize, parts: &[u32], m: &[u8], vars: &[u8], row
     fill(t, size, parts, &order[0..n], f, vars, rows, o);
 }
 
-// The truth table of OUT o, for rows or for the question.
-fn table(parts: &[u32], rows: bool, o: usize, t: &mut [u8]) -> Answer
+// The truth table of OUT o, for rows or for the question: its variables, or a refusal where its equation names too many pins.
+fn table(parts: &[u32], rows: bool, o: usize, t: &mut [u8]) -> Result<Chosen, Refusal>
     requires parts_value { stage_five (elements_of parts.now) ≡ fine }
     requires o_bound { o < 64 }
     requires in_bounds { 1024 ≤ length t.old }
-    ensures { (seen result ≡ tabled (elements_of parts.now) rows o) × (t.new ≡ table_in (elements_of parts.now) rows o t.old) }
+    ensures said { seen result ≡ tabled (elements_of parts.now) rows o }
+    ensures reason { IfErr result (λ r. r.reason ≡ Reason.Pins) }
+    ensures filled { t.new ≡ table_in (elements_of parts.now) rows o t.old }
 {
     let mut m = [0u8; 4096];
     reach::reach(&mut m, parts);
-    let mut vars = [0u8; 22];
-    let c = pins::variables(parts, &m, rows, o, &mut vars);
-    let n = c.count;
-    let mask = c.mask;
-    if n > 10 {
-        return Answer::TooMany {
-            place: trees::at(parts, trees::PLACE_AT + o),
-        };
+    let chosen = pins::variables(parts, &m, rows, o);
+    if chosen.count > 10 {
+        return Err(Refusal::new(Reason::Pins, trees::at(parts, trees::PLACE_AT + o)));
     }
-    tabulate(t, power(n), parts, &m, &vars[0..n], rows, o);
-    Answer::Table { count: n, mask }
+    tabulate(t, power(chosen.count), parts, &m, chosen.pins(), rows, o);
+    Ok(chosen)
 }
 
 // The truth table of OUT o over the complements of the columns' signals, last column pair first.
-pub fn rows_table(parts: &[u32], o: usize, t: &mut [u8]) -> Answer
+// Kept: this and the next differ in one truth value, which their names say and a call of one function would not.
+pub fn rows_table(parts: &[u32], o: usize, t: &mut [u8]) -> Result<Chosen, Refusal>
     requires parts_value { stage_five (elements_of parts.now) ≡ fine }
     requires o_bound { o < 64 }
     requires in_bounds { 1024 ≤ length t.old }
-    ensures { (seen result ≡ tabled (elements_of parts.now) true o) × (t.new ≡ table_in (elements_of parts.now) true o t.old) }
+    ensures said { seen result ≡ tabled (elements_of parts.now) true o }
+    ensures reason { IfErr result (λ r. r.reason ≡ Reason.Pins) }
+    ensures filled { t.new ≡ table_in (elements_of parts.now) true o t.old }
 {
     table(parts, true, o, t)
 }
 
 // The truth table of OUT o over its pins, rising: for the product question.
-pub fn question_table(parts: &[u32], o: usize, t: &mut [u8]) -> Answer
+pub fn question_table(parts: &[u32], o: usize, t: &mut [u8]) -> Result<Chosen, Refusal>
     requires parts_value { stage_five (elements_of parts.now) ≡ fine }
     requires o_bound { o < 64 }
     requires in_bounds { 1024 ≤ length t.old }
-    ensures { (seen result ≡ tabled (elements_of parts.now) false o) × (t.new ≡ table_in (elements_of parts.now) false o t.old) }
+    ensures said { seen result ≡ tabled (elements_of parts.now) false o }
+    ensures reason { IfErr result (λ r. r.reason ≡ Reason.Pins) }
+    ensures filled { t.new ≡ table_in (elements_of parts.now) false o t.old }
 {
     table(parts, false, o, t)
 }

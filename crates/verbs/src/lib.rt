@@ -6,9 +6,8 @@ ghost use Rattle.fusetext.specs.Put.{Wrote};
 ghost use Rattle.gallines.specs.Lines.{answer_to};
 ghost use Rattle.verbs.specs.Printed.{read_answer, file_answer, write_answer, bare, answers_from, line_end, model_answer, map_taken};
 
-use fuseread::Reading;
+use basics::refusal::{Reason, Refusal};
 use fusetext::field::put_text;
-use fusewrite::Written;
 
 // The answer to a fuse file of `total` bytes. Of one that is too long a part is enough.
 pub fn read_answer(file: &[u8], total: usize, out: &mut [u8]) -> usize
@@ -16,13 +15,12 @@ pub fn read_answer(file: &[u8], total: usize, out: &mut [u8]) -> usize
     ensures { Wrote out.old 0 (read_answer file.now total) out.new result }
 {
     if 65536 < total {
-        return lines::put_refusal(20, total, out, 0);
+        return lines::put_refused(Refusal::new(Reason::Form, total), out, 0);
     }
     let mut map = [0u8; 5892];
-    let reading = fuseread::read(file, &mut map);
-    match reading {
-        Reading::Map => lines::put_shown_line(&map, out),
-        Reading::Refused { number, place } => lines::put_refusal(number, place, out, 0),
+    match fuseread::read(file, &mut map) {
+        Ok(()) => lines::put_shown_line(&map, out),
+        Err(refusal) => lines::put_refused(refusal, out, 0),
     }
 }
 
@@ -31,10 +29,9 @@ fn put_file(map: &[u8], out: &mut [u8]) -> usize
     requires { 7154 ≤ length out.old }
     ensures { Wrote out.old 0 (file_answer map.now) out.new result }
 {
-    let written = fusewrite::write(map, out);
-    match written {
-        Written::File { len } => len,
-        Written::Refused { number, place } => lines::put_refusal(number, place, out, 0),
+    match fusewrite::write(map, out) {
+        Ok(len) => len,
+        Err(refusal) => lines::put_refused(refusal, out, 0),
     }
 }
 
@@ -45,7 +42,7 @@ pub fn write_answer(text: &[u8], out: &mut [u8]) -> usize
 {
     let n = lines::line_length(text);
     if 5892 < n {
-        return lines::put_refusal(31, 0, out, 0);
+        return lines::put_refused(Refusal::new(Reason::Map, 0), out, 0);
     }
     let mut map = [0u8; 5892];
     lines::put_fuses_in(&text[..n], &mut map);
@@ -77,9 +74,10 @@ fn put_last(map: &[u8], line: &[u8], out: &mut [u8], at: usize) -> usize
     ensures { Wrote out.old at (answers_from map.now line.now []) out.new result }
 {
     if line.len() == 0 {
-        return at;
+        at
+    } else {
+        put_answer(map, line, out, at)
     }
-    put_answer(map, line, out, at)
 }
 
 // The answers to lines. A byte is answered by five at the most.
@@ -88,31 +86,27 @@ fn put_answers(map: &[u8], s: &[u8], out: &mut [u8]) -> usize
     ensures { Wrote out.old 0 (answers_from map.now [] s.now) out.new result }
 {
     let mut start = 0;
-    let mut i = 0;
     let mut o = 0;
-    while i < s.len() {
-        let k = i;
-        i += 1;
-        if s[k] == 10 {
-            o = put_ended(map, &s[start..k], out, o);
-            start = i;
+    for i in 0..s.len() {
+        if s[i] == b'\n' {
+            o = put_ended(map, &s[start..i], out, o);
+            start = i + 1;
         }
     }
     put_last(map, &s[start..], out, o)
 }
 
 // How many bytes come before the first LF.
+#[tactic(auto, using(crate::proofs::Asking::end_here, crate::proofs::Asking::end_next, crate::proofs::Asking::end_none))]
 fn line_end(s: &[u8]) -> usize
     ensures { (result ≡ line_end s.now) × (result ≤ length s.now) }
 {
-    let mut i = 0;
-    while i < s.len() {
-        if s[i] == 10 {
+    for i in 0..s.len() {
+        if s[i] == b'\n' {
             return i;
         }
-        i += 1;
     }
-    i
+    s.len()
 }
 
 // The answers to the lines from byte e on, by the map in the first k bytes.

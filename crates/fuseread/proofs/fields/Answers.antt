@@ -1,6 +1,8 @@
 use native.Mathlib.Omega.{arith}
+use borrow.Author.Rules.{rules}
 use mathlib.Core.Path.{refl, sym, ◌∙◌}
 use lib.Seq.{length-take-le}
+use Rattle.fusefields.specs.Bytes.{blank, not_star}
 use Rattle.fuseread.proofs.Turns.{turn_ended, turn_open, turn_good, turn_bad, length_rest}
 use Rattle.fuseread.proofs.fields.Goals as goal
 
@@ -8,16 +10,36 @@ pub loop-piece-init : goal.loop-piece-init
 loop-piece-init c = (refl, omega arith, omega arith)
 
 pub slice_bounds-piece-end : goal.slice_bounds-piece-end
-slice_bounds-piece-end c = sym (length-take-le _ _ c.run-n.ensures.1)
+slice_bounds-piece-end c = sym (length-take-le _ _ c.run-n.ensures.upper_bound)
 
 pub returns-then-n-b : goal.returns-then-n-b
-returns-then-n-b c = sym (turn_ended c.loop-piece.seen c.loop-piece.cells c.args.s.now c.loop-piece.at c.run-n.result c.run-b.result c.loop-piece.invariant.1 c.run-n.ensures.0 c.run-b.ensures.0 c.if-rest-n.true c.if-n-b.true) ∙ c.loop-piece.invariant.0
+returns-then-n-b c =
+    let l = c.loop-piece in
+    let en = c.run-n.ensures.count not_star (λ x b h q. search rules) in
+    let eb = c.run-b.ensures.count blank (λ x b h q. search rules) in
+    sym (turn_ended l.seen l.cells c.args.s.now l.at c.run-n.result c.run-b.result l.invariant.1 en eb c.if-rest-n.true c.if-n-b.true) ∙ l.invariant.0
 
-pub returns-then-rest-n : goal.returns-then-rest-n
-returns-then-rest-n c = sym (turn_open c.loop-piece.seen c.loop-piece.cells c.args.s.now c.loop-piece.at c.run-n.result c.run-b.result c.loop-piece.invariant.1 c.run-n.ensures.0 c.run-b.ensures.0 c.if-rest-n.true c.if-n-b.false) ∙ c.loop-piece.invariant.0
+pub returns-else-n-b : goal.returns-else-n-b
+returns-else-n-b c =
+    let l = c.loop-piece in
+    let en = c.run-n.ensures.count not_star (λ x b h q. search rules) in
+    let eb = c.run-b.ensures.count blank (λ x b h q. search rules) in
+    sym (turn_open l.seen l.cells c.args.s.now l.at c.run-n.result c.run-b.result l.invariant.1 en eb c.if-rest-n.true c.if-n-b.false) ∙ l.invariant.0
 
 pub loop-piece-preserved : goal.loop-piece-preserved
-loop-piece-preserved c = ((turn_good c.loop-piece.seen c.loop-piece.cells c.args.s.now c.loop-piece.at c.run-n.result c.run-b.result c.loop-piece.invariant.1 c.run-n.ensures.0 c.run-b.ensures.0 (omega arith) c.judge-judged.result _ _ c.judge-judged.ensures c.in-Good.is) ∙ c.loop-piece.invariant.0, omega (arith, length_rest c.loop-piece.seen c.loop-piece.cells c.args.s.now c.loop-piece.at 0 0 c.loop-piece.invariant.1), omega arith)
+loop-piece-preserved c =
+    let l = c.loop-piece in
+    let en = c.run-n.ensures.count not_star (λ x b h q. search rules) in
+    let eb = c.run-b.ensures.count blank (λ x b h q. search rules) in
+    let h = length_rest l.seen l.cells c.args.s.now l.at 0 0 l.invariant.1 in (
+      turn_good l.seen l.cells c.args.s.now l.at c.run-n.result c.run-b.result l.invariant.1 en eb (omega arith) _ _ c.in-Ok.ensures ∙ l.invariant.0,
+      omega arith,
+      omega arith,
+    )
 
-pub returns-in-Bad : goal.returns-in-Bad
-returns-in-Bad c = (turn_bad c.loop-piece.seen c.loop-piece.cells c.args.s.now c.loop-piece.at c.run-n.result c.run-b.result c.loop-piece.invariant.1 c.run-n.ensures.0 c.run-b.ensures.0 (omega arith) c.judge-judged.result _ _ c.judge-judged.ensures c.in-Bad.is) ∙ c.loop-piece.invariant.0
+pub returns-in-Err : goal.returns-in-Err
+returns-in-Err c =
+    let l = c.loop-piece in
+    let en = c.run-n.ensures.count not_star (λ x b h q. search rules) in
+    let eb = c.run-b.ensures.count blank (λ x b h q. search rules) in
+    rw c.new.ensures (turn_bad l.seen l.cells c.args.s.now l.at c.run-n.result c.run-b.result l.invariant.1 en eb (omega arith) _ c.in-Err.ensures ∙ l.invariant.0)

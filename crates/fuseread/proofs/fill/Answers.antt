@@ -9,10 +9,10 @@ use Rattle.fusetext.proofs.Puts.{put_turn, put_done}
 use Rattle.fuseread.proofs.fill.Goals as goal
 
 pub loop-j-init : goal.loop-j-init
-loop-j-init c = (refl, omega arith, refl)
+loop-j-init c = (refl, refl)
 
 pub loop-j-preserved : goal.loop-j-preserved
-loop-j-preserved c = (put_turn _ _ _ c.loop-j.invariant.0 (filled_next c.args.f c.args.src.now c.loop-j.j (omega arith) ∙ ap (λ (x : ℕ). x ∷ filled c.args.f (drop (c.loop-j.j + 1) c.args.src.now)) (sym c.or_default.ensures)) (omega arith), omega arith, simp length-set c.loop-j.invariant.2)
+loop-j-preserved c = (put_turn _ _ _ c.loop-j.invariant.0 (filled_next c.args.f c.args.src.now c.loop-j.j (omega arith) ∙ ap (λ (x : ℕ). x ∷ filled c.args.f (drop (c.loop-j.j + 1) c.args.src.now)) (sym c.or_default.ensures)) (omega arith), simp length-set c.loop-j.invariant.1)
 
 pub returns : goal.returns
 returns c = record {

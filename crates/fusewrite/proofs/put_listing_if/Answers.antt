@@ -7,5 +7,5 @@ use Rattle.fusewrite.proofs.put_listing_if.Goals as goal
 pub returns-then-is_zero : goal.returns-then-is_zero
 returns-then-is_zero c = wrote_as (wrote_nothing _ _ (omega arith)) (listing_left _ _ (sym c.is_zero.ensures ∙ c.if-is_zero.true))
 
-pub returns : goal.returns
-returns c = wrote_as c.put_listing.ensures (listing_kept _ _ (sym c.is_zero.ensures ∙ c.if-is_zero.false))
+pub returns-else-is_zero : goal.returns-else-is_zero
+returns-else-is_zero c = wrote_as c.put_listing.ensures (listing_kept _ _ (sym c.is_zero.ensures ∙ c.if-is_zero.false))

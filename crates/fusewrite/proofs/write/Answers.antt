@@ -1,39 +1,38 @@
-use mathlib.Core.Path.{sym, ap, ◌∙◌}
+use mathlib.Core.Bool.{false}
+use mathlib.Core.Path.{◌≡◌, sym, ap, ◌∙◌}
 use native.Mathlib.Nat.{zero-add}
-use native.Mathlib.Omega.{arith}
 use borrow.Author.Tests.{le-leb, lt-leb}
+use Rattle.std.specs.Prelude.{Ok}
 use Rattle.fusetext.proofs.Files.{is_map_length, is_map_bits, is_map_yes, bits_all}
 use Rattle.fusetext.proofs.Puts.{put_front}
-use Rattle.fusewrite.specs.declared.Written.TheVariants.{File}
+use Rattle.fusetext.specs.File.{is_map}
 use Rattle.fusewrite.specs.Writing.{write_of}
+use Rattle.fusewrite.proofs.write.Goals.{then-map-ne-FUSES-via-then-map-ne-FUSES, then-map-ne-FUSES-via-else-map-ne-FUSES+then-not-is_bits}
 use Rattle.fusewrite.proofs.write.Goals as goal
 
-pub returns-then-map-ne5892 : goal.returns-then-map-ne5892
+pub returns-then-map-ne-FUSES : goal.returns-then-map-ne-FUSES
 unfolding write_of
-returns-then-map-ne5892 c = let e = is_map_length c.args.map.now c.if-map-ne5892.true in record { answers = rw e; leaves = rw e }
+returns-then-map-ne-FUSES c =
+    let e : is_map c.args.map.now ≡ false = elim c.then-map-ne-FUSES.branch [
+      | then-map-ne-FUSES-via-then-map-ne-FUSES w ↦ is_map_length c.args.map.now w.if-map-ne-FUSES.true
+      | then-map-ne-FUSES-via-else-map-ne-FUSES+then-not-is_bits w ↦ is_map_bits c.args.map.now (sym w.is_bits.ensures ∙ w.if-not-is_bits.true)
+    ] in
+    record { answers = rw (e, c.new.ensures); leaves = rw e }
 
-pub returns-then-not-is_bits : goal.returns-then-not-is_bits
+pub returns-then-out-lt-LONGEST : goal.returns-then-out-lt-LONGEST
 unfolding write_of
-returns-then-not-is_bits c = let e = is_map_bits c.args.map.now (sym c.is_bits.ensures ∙ c.if-not-is_bits.true) in record { answers = rw e; leaves = rw e }
+returns-then-out-lt-LONGEST c =
+    let e = is_map_yes c.args.map.now c.if-map-ne-FUSES.false (sym c.is_bits.ensures ∙ c.if-not-is_bits.false) in
+    let d = lt-leb _ _ c.if-out-lt-LONGEST.true in
+    record { answers = rw (e, d, c.new-then-out-lt-LONGEST.ensures); leaves = rw (e, d) }
 
-pub returns-then-out-lt7154 : goal.returns-then-out-lt7154
-unfolding write_of
-returns-then-out-lt7154 c =
-    let e = is_map_yes c.args.map.now c.if-map-ne5892.false (sym c.is_bits.ensures ∙ c.if-not-is_bits.false) in
-    let d = lt-leb _ _ c.if-out-lt7154.true in
-    record { answers = rw (e, d); leaves = rw (e, d) }
-
-pub put_file-requires : goal.put_file-requires
-put_file-requires c = record {
-  in_bounds = omega arith;
-  map_len = c.if-map-ne5892.false;
-  bits = bits_all _ (sym c.is_bits.ensures ∙ c.if-not-is_bits.false);
-}
+pub put_file-requires-clause-bits : goal.put_file-requires-clause-bits
+put_file-requires-clause-bits c = bits_all _ (sym c.is_bits.ensures ∙ c.if-not-is_bits.false)
 
 pub returns : goal.returns
 unfolding write_of
 returns c =
-    let e = is_map_yes c.args.map.now c.if-map-ne5892.false (sym c.is_bits.ensures ∙ c.if-not-is_bits.false) in
-    let d = le-leb _ _ c.if-out-lt7154.false in
+    let e = is_map_yes c.args.map.now c.if-map-ne-FUSES.false (sym c.is_bits.ensures ∙ c.if-not-is_bits.false) in
+    let d = le-leb _ _ c.if-out-lt-LONGEST.false in
     let w = c.put_file.ensures in
-    record { answers = rw (e, d) (ap File (w.ends ∙ zero-add _)); leaves = rw (e, d) (w.holds ∙ put_front _ _) }
+    record { answers = rw (e, d) (ap Ok (w.ends ∙ zero-add _)); leaves = rw (e, d) (w.holds ∙ put_front _ _) }

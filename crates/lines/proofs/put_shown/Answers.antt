@@ -9,14 +9,13 @@ use mathlib.Core.List.{◌∷◌}
 use Rattle.lines.proofs.put_shown.Goals as goal
 
 pub loop-j-init : goal.loop-j-init
-loop-j-init c = (refl, omega arith, refl)
+loop-j-init c = (refl, refl)
 
 pub loop-j-preserved : goal.loop-j-preserved
 loop-j-preserved c = let s = c.args.src.now in
     let j = c.loop-j.j in (
       put_turn _ _ _ c.loop-j.invariant.0 (shown_next s j (omega arith) ∙ ap (λ (x : ℕ). x ∷ shown (drop (j + 1) s)) (sym c.digit_of.ensures)) (omega arith),
-      omega arith,
-      simp length-set c.loop-j.invariant.2,
+      simp length-set c.loop-j.invariant.1,
     )
 
 pub returns : goal.returns

@@ -5,10 +5,10 @@ use native.Mathlib.Omega.{arith}
 use Rattle.meaning.proofs.rank_of.Goals as goal
 
 pub loop-j-init : goal.loop-j-init
-loop-j-init c = (omega arith, count_none _)
+loop-j-init c = count_none _
 
 pub loop-j-preserved : goal.loop-j-preserved
-loop-j-preserved c = (omega (arith, c.loop-j-test.true), count_more _ _ _ _ c.loop-j.invariant.1 (c.byte_of-n.ensures ∙ ap bit c.named.ensures))
+loop-j-preserved c = count_more _ _ _ _ c.loop-j.invariant (c.byte_of-n.ensures ∙ ap bit c.named.ensures)
 
 pub overflow_add-n : goal.overflow_add-n
-overflow_add-n c = let a = count_small _ _ _ c.loop-j.invariant.1 in let b = bit_one _ c.named.result c.byte_of-n.ensures in omega (arith, c.loop-j-test.true)
+overflow_add-n c = let a = count_small _ _ _ c.loop-j.invariant in let b = bit_one _ c.named.result c.byte_of-n.ensures in omega (arith, c.loop-j-test.true)

@@ -1,10 +1,6 @@
 use Rattle.pins.proofs.Choosing.{Choosing}
 use Rattle.trees.specs.Layout.{elements_of}
-use Prim.Native.Nat.{◌-◌}
 use Rattle.pins.proofs.choose.Given as goal
 
 abbrev pub invariant-loop-i : goal.invariant-loop-i
-invariant-loop-i l = Choosing (elements_of l.parts) l.rows l.o l.vars l.n l.mask l.weight l.i
-
-abbrev pub decreases-loop-i : goal.decreases-loop-i
-decreases-loop-i l = 22 - l.i
+invariant-loop-i l = Choosing (elements_of l.parts) l.rows l.o l.vars l.count l.mask l.i

@@ -1,19 +1,14 @@
-use Rattle.pins.specs.Named.{mentions_at, names_pin}
-use Rattle.trees.specs.Layout.{elements_of}
-use Rattle.basics.proofs.Folds.{none_start, none_more, none_end, any_hit}
-use mathlib.Core.Path.{sym, ◌∙◌}
+use Rattle.std.proofs.Common.{rules}
+use Rattle.circuit.proofs.First.{found_any}
+use Rattle.pins.specs.Named.{names_pin}
+use Rattle.pins.proofs.Naming.{or_then, or_else}
+use mathlib.Core.Path.{◌∙◌}
 use Rattle.pins.proofs.is_named_pin.Goals as goal
 
-pub loop-j-init : goal.loop-j-init
-loop-j-init c = none_start _ _
-
-pub returns-then-is_at : goal.returns-then-is_at
+pub returns-then-is_some : goal.returns-then-is_some
 unfolding names_pin
-returns-then-is_at c = simp (any_hit (mentions_at (elements_of c.args.parts.now) c.args.o c.args.p) 64 _ c.loop-j-test.true (sym c.is_at.ensures ∙ c.if-is_at.true))
+returns-then-is_some c = or_then _ _ _ (c.is_some.ensures ∙ found_any _ _ (λ k b h p. search rules) c.find.ensures.some c.find.ensures.none) c.if-is_some.true
 
-pub loop-j-preserved : goal.loop-j-preserved
-loop-j-preserved c = none_more _ _ _ c.loop-j-test.true c.loop-j.invariant (sym c.is_at.ensures ∙ c.if-is_at.false)
-
-pub returns : goal.returns
+pub returns-else-is_some : goal.returns-else-is_some
 unfolding names_pin
-returns c = simp (none_end (mentions_at (elements_of c.args.parts.now) c.args.o c.args.p) 64 _ c.loop-j-test.false c.loop-j.invariant) c.is_own.ensures
+returns-else-is_some c = or_else _ _ _ _ (c.is_some.ensures ∙ found_any _ _ (λ k b h p. search rules) c.find.ensures.some c.find.ensures.none) c.if-is_some.false c.is_own.ensures

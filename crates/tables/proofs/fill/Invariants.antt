@@ -2,11 +2,7 @@ use Rattle.tables.proofs.Filling.{Filling}
 use Rattle.tables.specs.Tables.{setting_at, outcome}
 use Rattle.trees.specs.Layout.{elements_of}
 use Rattle.basics.specs.Choice.{bit}
-use Prim.Native.Nat.{◌-◌}
 use Rattle.tables.proofs.fill.Given as goal
 
 abbrev pub invariant-loop-k : goal.invariant-loop-k
 invariant-loop-k l = Filling (λ k. bit (outcome (elements_of l.parts) l.rows l.o (setting_at (elements_of l.parts) l.rows l.vars k))) l.initial.t l.t l.size l.k
-
-abbrev pub decreases-loop-k : goal.decreases-loop-k
-decreases-loop-k l = l.size - l.k

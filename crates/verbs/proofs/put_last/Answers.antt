@@ -11,5 +11,5 @@ returns-then-line-eq0 c = wrote_as (wrote_nothing c.args.out.now c.args.at (omeg
 pub put_answer-requires : goal.put_answer-requires
 put_answer-requires c = let e = ap length (last_some c.args.map.now c.args.line.now c.if-line-eq0.false) in omega arith
 
-pub returns : goal.returns
-returns c = wrote_as c.put_answer.ensures (sym (last_some c.args.map.now c.args.line.now c.if-line-eq0.false))
+pub returns-else-line-eq0 : goal.returns-else-line-eq0
+returns-else-line-eq0 c = wrote_as c.put_answer.ensures (sym (last_some c.args.map.now c.args.line.now c.if-line-eq0.false))

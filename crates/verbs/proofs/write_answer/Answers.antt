@@ -6,7 +6,7 @@ use Rattle.verbs.proofs.Files.{write_long, write_short}
 use Rattle.verbs.proofs.write_answer.Goals as goal
 
 pub returns-then-n-gt5892 : goal.returns-then-n-gt5892
-returns-then-n-gt5892 c = wrote_as c.put_refusal.ensures (write_long c.args.text.now _ c.line_length-n.ensures.0 c.line_length-n.ensures.1 c.if-n-gt5892.true)
+returns-then-n-gt5892 c = wrote_as (rw c.new.ensures at c.put_refused.ensures) (write_long c.args.text.now _ c.line_length-n.ensures.0 c.line_length-n.ensures.1 c.if-n-gt5892.true)
 
 pub slice_bounds-put_fuses_in-end : goal.slice_bounds-put_fuses_in-end
 slice_bounds-put_fuses_in-end c = sym (length-take-le c.line_length-n.result c.args.text.now c.line_length-n.ensures.1)

@@ -1,11 +1,9 @@
 use mathlib.Core.Path.{◌≡◌}
-use Prim.Native.Nat.{◌+◌, ◌-◌, ◌≤◌}
+use mathlib.Core.Bool.{Bool}
+use Prim.Native.Nat.{ℕ, ◌+◌}
 use lib.ListN.{length, drop}
-use Rattle.fusefields.specs.Bytes.{front, kind}
+use Rattle.fusefields.specs.Bytes.{front, Computes}
 use Rattle.fusefields.proofs.bytes.run.Given as goal
 
 abbrev pub invariant-loop-j : goal.invariant-loop-j
-invariant-loop-j l = (l.j + length (front (kind l.k) (drop l.j l.s)) ≡ length (front (kind l.k) l.s)) × (l.j ≤ length l.s)
-
-abbrev pub decreases-loop-j : goal.decreases-loop-j
-decreases-loop-j l = length l.s - l.j
+invariant-loop-j g l = (p : ℕ → Bool) → Computes (goal.F-post g l.test) p → l.j + length (front p (drop l.j l.s)) ≡ length (front p l.s)

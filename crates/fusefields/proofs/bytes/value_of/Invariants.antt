@@ -1,11 +1,8 @@
 use mathlib.Core.Path.{◌≡◌}
-use Prim.Native.Nat.{◌-◌, ◌≤◌, min}
-use lib.ListN.{length, drop}
+use Prim.Native.Nat.{◌≤◌, min}
+use lib.ListN.{drop}
 use Rattle.fusefields.specs.Bytes.{value}
 use Rattle.fusefields.proofs.bytes.value_of.Given as goal
 
-abbrev pub invariant-loop-j : goal.invariant-loop-j
-invariant-loop-j l = (min 10000 (value l.n (drop l.j l.s)) ≡ min 10000 (value 0 l.s)) × (l.n ≤ 10000) × (l.j ≤ length l.s)
-
-abbrev pub decreases-loop-j : goal.decreases-loop-j
-decreases-loop-j l = length l.s - l.j
+abbrev pub invariant-loop-b : goal.invariant-loop-b
+invariant-loop-b l = (min l.most (value l.n (drop l.b-index l.s)) ≡ min l.most (value 0 l.s)) × (l.n ≤ l.most)
