@@ -26,9 +26,10 @@ use Rattle.tables.specs.Tables.{entry_of, Tabled, tabled, table_in}
 use Rattle.tables.specs.Tables.Tabled.{table, many}
 use Rattle.engine.specs.Table.{function}
 use Rattle.engine.proofs.Walk.{few_two}
-use Rattle.std.specs.Prelude.{Option, Some, None}
+use Rattle.std.specs.Prelude.{Option, Some, None, Err}
 use Rattle.std.specs.Option.{ok_or}
-use Rattle.basics.specs.declared.refusal.Reason.TheVariants.{Products}
+use Rattle.basics.specs.declared.refusal.Reason.{Reason}
+use Rattle.basics.specs.declared.refusal.Reason.TheVariants.{Pins, Products}
 use Rattle.fit.specs.declared.Fitted.{Fitted}
 use Rattle.fit.specs.Fit.{Programmed, seen as programmed, fitted}
 use Rattle.outputs.specs.Outputs.{table_of, too_many, fitted_out}
@@ -185,13 +186,14 @@ tried_fits e o n t q h w =
     (record { number = pick (fitted_out e o).ok 0 12; s0 = (fitted_out e o).s0; n = (fitted_out e o).n; masks = (fitted_out e o).masks }))
     (not_many e o n q h))
 
-pub tried_many : (e : Elements) (o : ℕ) → leb (count_of e true o) 10 ≡ false → ◌≡◌ {A = Tried} (record { number = 11; s0 = false; n = 0; masks = replicate 16 0 }) (tried_of e o)
+pub tried_many : (e : Elements) (o : ℕ) (r : Reason) → r ≡ Pins → leb (count_of e true o) 10 ≡ false → seen (Err r) ≡ tried_of e o
 unfolding tried_of too_many
-tried_many e o q =
-    sym
+tried_many e o r w q =
+    ap (λ (x : Reason). seen (Err x)) w
+    ∙ sym
     (ap
     (λ (b : Bool).
-    pick (not b)
+    pick {X = Tried} (not b)
     (record { number = 11; s0 = false; n = 0; masks = replicate 16 0 })
     (record { number = pick (fitted_out e o).ok 0 12; s0 = (fitted_out e o).s0; n = (fitted_out e o).n; masks = (fitted_out e o).masks }))
     q)

@@ -51,10 +51,10 @@ pub fn try_out(parts: &[u32], o: usize, room: &mut [u8]) -> Result<Fitted, Reaso
 {
     let mut t = [0u8; 1024];
     match tables::rows_table(parts, o, &mut t) {
-        tables::Answer::Table { count, mask } => {
-            let size = tables::power(count);
-            fit_table(parts, o, &t[..size], count, mask, room).ok_or(Reason::Products)
+        Ok(chosen) => {
+            let size = tables::power(chosen.count);
+            fit_table(parts, o, &t[..size], chosen.count, chosen.mask, room).ok_or(Reason::Products)
         }
-        tables::Answer::TooMany { .. } => Err(Reason::Pins),
+        Err(refusal) => Err(refusal.reason),
     }
 }
