@@ -76,19 +76,19 @@ upto_all : (e : Elements) (k : ℕ) → up_to e 64 k ≡ cell_of e k
 unfolding up_to cell_of
 upto_all e k = refl
 
-pub record Held (e : Elements) (l : List Programmed) (i : ℕ) : Type 0 where
+pub record Held {A : Type 0} (e : Elements) (pr : Programmed → A) (d : A) (l : List A) (i : ℕ) : Type 0 where
   pub size : length l ≡ 10
-  pub says : (k : ℕ) → k < 10 → get_or l k noProducts ≡ up_to e i k
+  pub says : (k : ℕ) → k < 10 → get_or l k d ≡ pr (up_to e i k)
 
-pub held_start : (e : Elements) (l : List Programmed) → l ≡ replicate 10 noProducts → Held e l 0
-held_start e l q =
+pub held_start : {A : Type 0} (e : Elements) (pr : Programmed → A) (d : A) (l : List A) → l ≡ replicate 10 (pr noProducts) → Held e pr d l 0
+held_start e pr d l q =
     record {
       size = ap length q;
-      says = λ k h. ap (λ x. get_or x k noProducts) q ∙ get_or-replicate 10 k noProducts noProducts h ∙ sym (upto_none e k);
+      says = λ k h. ap (λ x. get_or x k d) q ∙ get_or-replicate 10 k (pr noProducts) d h ∙ sym (ap pr (upto_none e k));
     }
 
-held_skip : (e : Elements) (l : List Programmed) (i : ℕ) → ((k : ℕ) → k < 10 → out_of e k ≡ i → ⊥) → Held e l i → Held e l (i + 1)
-held_skip e l i n c = record { size = c.size; says = λ k h. c.says k h ∙ sym (upto_same e i k (n k h)) }
+held_skip : {A : Type 0} (e : Elements) (pr : Programmed → A) (d : A) (l : List A) (i : ℕ) → ((k : ℕ) → k < 10 → out_of e k ≡ i → ⊥) → Held e pr d l i → Held e pr d l (i + 1)
+held_skip e pr d l i n c = record { size = c.size; says = λ k h. c.says k h ∙ sym (ap pr (upto_same e i k (n k h))) }
 
 -- an element that is no OUT of a cell
 skipped : (e : Elements) (i : ℕ) → i < 64 → (eqb (e.class i) 2 && eqb (out_at e (e.pin i)) i) ≡ false → (k : ℕ) → k < 10 → out_of e k ≡ i → ⊥
@@ -99,23 +99,23 @@ skipped e i h q k l r =
     (ap₂ (λ (x y : Bool). x && y) (eq-eqb (e.class i) 2 w.0) (eq-eqb (out_at e (e.pin i)) i (ap (out_at e) w.1 ∙ r)))
     ∙ q)
 
-stored : (e : Elements) (l : List Programmed) (i : ℕ) (v : Programmed) → i < 64 → out_at e (e.pin i) ≡ i → 14 ≤ e.pin i → e.pin i < 24
-    → Held e l i → v ≡ fitted_out e i → Held e (set l (23 - e.pin i) v) (i + 1)
-stored e l i v h q lo hi c w = record { size = length-set l (23 - e.pin i) v ∙ c.size; says = λ k g. at k g (eqb k (23 - e.pin i)) refl }
+stored : {A : Type 0} (e : Elements) (pr : Programmed → A) (d : A) (l : List A) (i : ℕ) (v : A) → i < 64 → out_at e (e.pin i) ≡ i → 14 ≤ e.pin i → e.pin i < 24
+    → Held e pr d l i → v ≡ pr (fitted_out e i) → Held e pr d (set l (23 - e.pin i) v) (i + 1)
+stored e pr d l i v h q lo hi c w = record { size = length-set l (23 - e.pin i) v ∙ c.size; says = λ k g. at k g (eqb k (23 - e.pin i)) refl }
   where
-    at : (k : ℕ) → k < 10 → (b : Bool) → eqb k (23 - e.pin i) ≡ b → get_or (set l (23 - e.pin i) v) k noProducts ≡ up_to e (i + 1) k
+    at : (k : ℕ) → k < 10 → (b : Bool) → eqb k (23 - e.pin i) ≡ b → get_or (set l (23 - e.pin i) v) k d ≡ pr (up_to e (i + 1) k)
     at k g true r =
         let z = eqb-true k (23 - e.pin i) r in
         let s = c.size in
         let y : 23 - k ≡ e.pin i = omega (arith, z, lo, hi) in
-        ap (λ (j : ℕ). get_or (set l (23 - e.pin i) v) j noProducts) z
-        ∙ get_or-set_same l (23 - e.pin i) v noProducts (omega (arith, s, lo, hi))
+        ap (λ (j : ℕ). get_or (set l (23 - e.pin i) v) j d) z
+        ∙ get_or-set_same l (23 - e.pin i) v d (omega (arith, s, lo, hi))
         ∙ w
-        ∙ sym (upto_here e i k (ap (out_at e) y ∙ q))
+        ∙ sym (ap pr (upto_here e i k (ap (out_at e) y ∙ q)))
     at k g false r =
-        get_or-set_other l (23 - e.pin i) k v noProducts (eqb-false k (23 - e.pin i) r)
+        get_or-set_other l (23 - e.pin i) k v d (eqb-false k (23 - e.pin i) r)
         ∙ c.says k g
-        ∙ sym (upto_same e i k (λ x. eqb-false k (23 - e.pin i) r (let y = (out_is e (23 - k) i x h).1 in omega (arith, y, g))))
+        ∙ sym (ap pr (upto_same e i k (λ x. eqb-false k (23 - e.pin i) r (let y = (out_is e (23 - k) i x h).1 in omega (arith, y, g)))))
 
 fills_is : (e : Elements) (i : ℕ) → number_of e i ≡ 0 → fills e i ≡ (eqb (e.class i) 2 && eqb (out_at e (e.pin i)) i)
 unfolding fills number_of
@@ -126,16 +126,16 @@ fills_is e i q = go (eqb (e.class i) 2) (eqb (out_at e (e.pin i)) i) q
     go true false q = refl
     go false b q = refl
 
-pub held_more : (e : Elements) (l : List Programmed) (i : ℕ) (v : Programmed) → stage_five e ≡ fine → i < 64 → number_of e i ≡ 0
-    → Held e l i → v ≡ fitted_out e i → Held e (placed e i l v) (i + 1)
-held_more e l i v ok h q c w = go (fills e i) (sym (fills_is e i q))
+pub held_more : {A : Type 0} (e : Elements) (pr : Programmed → A) (d : A) (l : List A) (i : ℕ) (v : A) → stage_five e ≡ fine → i < 64 → number_of e i ≡ 0
+    → Held e pr d l i → v ≡ pr (fitted_out e i) → Held e pr d (placed e i l v) (i + 1)
+held_more {A} e pr d l i v ok h q c w = go (fills e i) (sym (fills_is e i q))
   where
-    go : (b : Bool) → (eqb (e.class i) 2 && eqb (out_at e (e.pin i)) i) ≡ b → Held e (pick b (set l (23 - e.pin i) v) l) (i + 1)
+    go : (b : Bool) → (eqb (e.class i) 2 && eqb (out_at e (e.pin i)) i) ≡ b → Held e pr d (pick b (set l (23 - e.pin i) v) l) (i + 1)
     go true r =
         let z = both (e.class i) 2 (out_at e (e.pin i)) i r in
         let p = out_pin e i ok h z.0 in
-        stored e l i v h z.1 p.0 p.1 c w
-    go false r = held_skip e l i (skipped e i h r) c
+        stored e pr d l i v h z.1 p.0 p.1 c w
+    go false r = held_skip e pr d l i (skipped e i h r) c
 
 ten_at : {A : Type 0} (f : ℕ → A) (d : A) (k : ℕ) → k < 10 → get_or (ten f) k d ≡ f k
 ten_at f d zero h = refl
@@ -153,11 +153,11 @@ ten_at f d (suc (suc (suc (suc (suc (suc (suc (suc (suc (suc k)))))))))) h = abs
 pub ten_is : {A : Type 0} (f : ℕ → A) (d : A) (k : ℕ) → k < 10 → get_or (ten f) k d ≡ f k
 ten_is = ten_at
 
-pub held_end : (e : Elements) (l : List Programmed) (i : ℕ) → 64 ≤ i → i ≤ 64 → Held e l i → l ≡ ten (cell_of e)
-held_end e l i h u c =
+pub held_end : {A : Type 0} (e : Elements) (pr : Programmed → A) (d : A) (l : List A) (i : ℕ) → 64 ≤ i → i ≤ 64 → Held e pr d l i → l ≡ ten (λ k. pr (cell_of e k))
+held_end e pr d l i h u c =
     let z : i ≡ 64 = omega (arith, h, u) in
-    ext_get_or noProducts l (ten (cell_of e)) c.size
-    (λ k g. c.says k (subst (λ (n : ℕ). k < n) c.size g) ∙ ap (λ (j : ℕ). up_to e j k) z ∙ upto_all e k ∙ sym (ten_at (cell_of e) noProducts k (subst (λ (n : ℕ). k < n) c.size g)))
+    ext_get_or d l (ten (λ k. pr (cell_of e k))) c.size
+    (λ k g. c.says k (subst (λ (n : ℕ). k < n) c.size g) ∙ ap (λ (j : ℕ). pr (up_to e j k)) z ∙ ap pr (upto_all e k) ∙ sym (ten_at (λ k. pr (cell_of e k)) d k (subst (λ (n : ℕ). k < n) c.size g)))
 
 pub ten_listed : (f : ℕ → ℕ) → listed f 10 ≡ ten f
 unfolding listed

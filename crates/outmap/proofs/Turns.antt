@@ -1,17 +1,18 @@
 -- The turn of one element, and stage 6 as a loop over all of them. Assumes nothing.
 use mathlib.Core.Path.{◌≡◌, refl, sym, ap, ap₂, ◌∙◌, subst}
 use mathlib.Core.Bool.{Bool, true, false, not, ◌&&◌, ◌||◌}
-use mathlib.Core.List.{List, [], map, map-map}
+use mathlib.Core.List.{List, []}
 use Prim.Native.Nat.{ℕ, ◌+◌, ◌-◌, ◌≤◌, ◌<◌}
 use native.Mathlib.Omega.{arith}
 use lib.Dec.{eqb, leb, ltb}
 use borrow.Author.Tests.{eq-eqb, ne_eqb, le-ltb, lt-ltb, ltb-true, leb-true}
 use lib.ListN.{length, get_or, take, set, replicate, length-replicate}
-use Rattle.std.specs.Prelude.{Option, Some, None as Nothing, Ok, Err}
+use Rattle.std.specs.Prelude.{Some, Ok, Err}
 use Rattle.basics.specs.Choice.{pick, bit}
 use Rattle.basics.specs.Refusal.{number_of as reason_number}
 use Rattle.basics.specs.declared.refusal.Reason.{Reason}
 use Rattle.basics.specs.declared.refusal.Reason.TheVariants.{Length, Grammar, Arithmetic, Name, Index, Limit, Assignment, Register, Loop, Position, Pins, Products, Memory, Question, Form, Device, Fuse, FuseSum, ByteSum, Model, Map, Value}
+use Rattle.cells.specs.declared.Cells.{Cells}
 use Rattle.fit.specs.declared.Fitted.{Fitted}
 use Rattle.basics.specs.Below.{all_below, listed}
 use Rattle.basics.proofs.Truth.{clash}
@@ -28,11 +29,10 @@ use Rattle.cells.specs.Counts.{picks}
 use Rattle.cells.specs.Map.{map_of}
 use Rattle.reach.specs.Uses.{registers}
 use Rattle.behave.specs.Cells.{unused, combinational, registered, code}
-use Rattle.outputs.specs.Outputs.{out_of, kind_of, too_many, fitted_out, misfits, stage_six, cell_of, masks_of, counts_of, kinds_of, s0s_of, map_for, ten}
+use Rattle.outputs.specs.Outputs.{out_of, kind_of, too_many, fitted_out, misfits, stage_six, cell_of, masks_of, counts_of, kinds_of, s0s_of, map_for}
 use Rattle.outputs.specs.Trial.{Tried, seen as seen_trial, tried_of}
 use Rattle.outputs.proofs.Trying.{out_pin}
-use Rattle.std.proofs.lemmas.List.{map-set}
-use Rattle.outmap.specs.Sixth.{fills, placed, number_of, Fitting, Few, fact_at, facts_of, after}
+use Rattle.outmap.specs.Sixth.{fills, placed, number_of, Placed, Fitting, Few, fact_at, facts_of, after}
 use Rattle.outmap.proofs.Filling.{out_is, Held, held_start, held_more, held_end, ten_is}
 
 -- ---- at most sixteen products
@@ -127,13 +127,26 @@ unfolding fills
 first_fills e i b t c q f w =
     ap₂ (λ (x y : Bool). x && (y && eqb (tried_of e i).number 0)) (eq-eqb (e.class i) 2 c) (sym f ∙ w) ∙ eq-eqb (tried_of e i).number 0 (sym (ap (λ (x : Tried). x.number) q))
 
-pub left_out : (e : Elements) (i : ℕ) (l : List Programmed) (v : Programmed) → fills e i ≡ false → l ≡ placed e i l v
+left_out : {A : Type 0} (e : Elements) (i : ℕ) (l : List A) (v : A) → fills e i ≡ false → l ≡ placed e i l v
 left_out e i l v q = sym (ap (λ (b : Bool). pick b (set l (23 - e.pin i) v) l) q)
 
-pub put_in : (e : Elements) (i k : ℕ) (l : List (Option Fitted)) (t : Option Fitted) (v : Programmed) → fills e i ≡ true → k ≡ 23 - e.pin i → programmed t ≡ v
-    → map programmed (set l k t) ≡ placed e i (map programmed l) v
-put_in e i k l t v q z w =
-    map-set programmed l k t ∙ ap₂ (set (map programmed l)) z w ∙ sym (ap (λ (b : Bool). pick b (set (map programmed l) (23 - e.pin i) v) (map programmed l)) q)
+-- an element that fills no cell
+pub none_placed : (e : Elements) (i : ℕ) (c : Cells) → fills e i ≡ false → Placed e i c c
+none_placed e i c q = record { masks_after = left_out e i c.masks _ q; counts_after = left_out e i c.counts _ q; kinds_after = refl; s0s_after = left_out e i c.s0s _ q }
+
+put_in : {A : Type 0} (e : Elements) (i k : ℕ) (l : List A) (u v : A) → fills e i ≡ true → k ≡ 23 - e.pin i → u ≡ v → set l k u ≡ placed e i l v
+put_in e i k l u v q z w = ap₂ (set l) z w ∙ sym (ap (λ (b : Bool). pick b (set l (23 - e.pin i) v) l) q)
+
+-- one that is fitted into its cell
+pub now_placed : (e : Elements) (i k s0 : ℕ) (c : Cells) (t : Fitted) → fills e i ≡ true → k ≡ 23 - e.pin i → programmed (Some t) ≡ fitted_out e i → s0 ≡ bit t.s0
+    → Placed e i c (record { masks = set c.masks k t.masks; counts = set c.counts k t.n; kinds = c.kinds; s0s = set c.s0s k s0 })
+now_placed e i k s0 c t q z w b =
+    record {
+      masks_after = put_in e i k c.masks _ _ q z (ap (λ (x : Programmed). x.masks) w);
+      counts_after = put_in e i k c.counts _ _ q z (ap (λ (x : Programmed). x.n) w);
+      kinds_after = refl;
+      s0s_after = put_in e i k c.s0s _ _ q z (b ∙ ap (λ (x : Programmed). bit x.s0) w);
+    }
 
 tried_fit : (u : Programmed) (t : Fitted) (b c : Bool) → u.ok ≡ c
     → seen_trial (Ok t)
@@ -208,41 +221,38 @@ lets_pass e i h c =
     sym (ap (λ (b : Bool). pick b (refused (pick (too_many e 64) 11 12) (e.place 64)) fine) (le-ltb 64 64 (omega arith)))
     ∙ ap (λ (o : ℕ). pick (ltb o 64) (refused (pick (too_many e o) 11 12) (e.place o)) fine) (missed (misfits e) 64 i h c)
 
-pub record Turned (e : Elements) (cells : List Programmed) (i : ℕ) : Type 0 where
+pub record Turned (e : Elements) (cells : Cells) (i : ℕ) : Type 0 where
   pub none : None (misfits e) 64 i
-  pub held : Held e cells i
+  pub masks : Held e (λ t. t.masks) [] cells.masks i
+  pub counted : Held e (λ t. t.n) 0 cells.counts i
+  pub kinds : cells.kinds ≡ kinds_of e
+  pub polar : Held e (λ t. bit t.s0) 0 cells.s0s i
 
-pub turned_start : (e : Elements) (cells : List (Option Fitted)) → cells ≡ replicate 10 Nothing → Turned e (map programmed cells) 0
-turned_start e cells a = record { none = none_start (misfits e) 64; held = held_start e (map programmed cells) (ap (map programmed) a) }
+pub turned_start : (e : Elements) (kinds : List ℕ) → kinds ≡ kinds_of e
+    → Turned e (record { masks = replicate 10 (replicate 16 0); counts = replicate 10 0; kinds = kinds; s0s = replicate 10 0 }) 0
+turned_start e kinds q =
+    record { none = none_start (misfits e) 64; masks = held_start e (λ t. t.masks) [] _ refl; counted = held_start e (λ t. t.n) 0 _ refl; kinds = q; polar = held_start e (λ t. bit t.s0) 0 _ refl }
 
-pub turned_more : (e : Elements) (cells cells' : List Programmed) (i : ℕ) → stage_five e ≡ fine → i < 64 → Turned e cells i
-    → 0 ≡ number_of e i → cells' ≡ placed e i cells (fitted_out e i) → Turned e cells' (i + 1)
-turned_more e cells cells' i ok h t q a =
+pub turned_more : (e : Elements) (c c' : Cells) (i : ℕ) → stage_five e ≡ fine → i < 64 → Turned e c i → 0 ≡ number_of e i → Placed e i c c' → Turned e c' (i + 1)
+turned_more e c c' i ok h t q p =
+    let w = sym q in
     record {
-      none = none_more (misfits e) 64 i h t.none (passes e i (sym q));
-      held = subst (λ (l : List Programmed). Held e l (i + 1)) (sym a) (held_more e cells i (fitted_out e i) ok h (sym q) t.held refl);
+      none = none_more (misfits e) 64 i h t.none (passes e i w);
+      masks = subst (λ (l : List (List ℕ)). Held e (λ t. t.masks) [] l (i + 1)) (sym p.masks_after) (held_more e (λ t. t.masks) [] c.masks i (fitted_out e i).masks ok h w t.masks refl);
+      counted = subst (λ (l : List ℕ). Held e (λ t. t.n) 0 l (i + 1)) (sym p.counts_after) (held_more e (λ t. t.n) 0 c.counts i (fitted_out e i).n ok h w t.counted refl);
+      kinds = p.kinds_after ∙ t.kinds;
+      polar = subst (λ (l : List ℕ). Held e (λ t. bit t.s0) 0 l (i + 1)) (sym p.s0s_after) (held_more e (λ t. bit t.s0) 0 c.s0s i (bit (fitted_out e i).s0) ok h w t.polar refl);
     }
 
-pub turned_end : (e : Elements) (cells : List Programmed) (i : ℕ) → 64 ≤ i → Turned e cells i → Fitting e cells
-turned_end e cells i h t = let u = t.none.under in record { cells_are = λ z. held_end e cells i h u t.held }
-
-is_fine : Verdict → Bool
-is_fine fine = true
-is_fine (refused n p) = false
-
-pub not_fine : (n p : ℕ) → refused n p ≡ fine → ⊥
-unfolding is_fine
-not_fine n p q = clash (sym (ap is_fine q))
-
-pub stopped : (e : Elements) (cells : List Programmed) (n p : ℕ) → refused n p ≡ stage_six e → Fitting e cells
-stopped e cells n p q = record { cells_are = λ z. absurd (not_fine n p (q ∙ z)) }
-
--- ---- the arrays by cell
-
--- what is read off each cell
-pub read_off : {A : Type 0} (e : Elements) (g : Programmed → A) (cells : List (Option Fitted)) (l : List A) → map programmed cells ≡ ten (cell_of e)
-    → l ≡ map (λ t. g (programmed t)) cells → l ≡ ten (λ k. g (cell_of e k))
-read_off e g cells l c q = q ∙ sym (map-map g programmed cells) ∙ ap (map g) c
+pub turned_end : (e : Elements) (c : Cells) (i : ℕ) → 64 ≤ i → Turned e c i → Fitting e c
+turned_end e c i h t =
+    let u = t.none.under in
+    record {
+      masks_are = held_end e (λ t. t.masks) [] c.masks i h u t.masks;
+      counts_are = held_end e (λ t. t.n) 0 c.counts i h u t.counted;
+      kinds_are = t.kinds;
+      s0s_are = held_end e (λ t. bit t.s0) 0 c.s0s i h u t.polar;
+    }
 
 -- ---- facts
 
