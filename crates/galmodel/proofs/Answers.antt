@@ -13,9 +13,8 @@ use Rattle.gal.specs.Map.{signals}
 use Rattle.gal.specs.Refuse.{no_map}
 use Rattle.gal.specs.Show.{shown_pins, value_pins}
 use Rattle.gal.specs.Clock.{next_bits}
-use Rattle.gal.specs.Model.{answered, modelled}
-use Rattle.gal.specs.declared.Answer.{Answer}
-use Rattle.gal.specs.declared.Verdict.TheVariants.{Shown}
+use Rattle.gal.specs.Model.{Answer, answered, modelled}
+use Rattle.gal.specs.Model.Verdict.{Shown}
 
 -- a map that is not refused 31 has its 5,892 bytes
 pub sized : (m : List ℕ) → no_map m ≡ false → length m ≡ 5892
