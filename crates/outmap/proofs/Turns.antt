@@ -15,7 +15,6 @@ use Rattle.basics.specs.declared.refusal.Reason.TheVariants.{Length, Grammar, Ar
 use Rattle.cells.specs.declared.Cells.{Cells}
 use Rattle.fit.specs.declared.Fitted.{Fitted}
 use Rattle.basics.specs.Below.{all_below, listed}
-use Rattle.basics.proofs.Truth.{clash}
 use Rattle.basics.proofs.Folds.{None, none_start, none_more, all_at}
 use Rattle.trees.specs.Layout.{Elements}
 use Rattle.circuit.specs.StageFive.{Verdict, stage_five}
@@ -66,10 +65,9 @@ out_few e i ok h c = let p = out_pin e i ok h c in fitted_few (23 - e.pin i) _ _
 
 -- ---- one element
 
-pub no_out : (e : Elements) (i : ℕ) → (e.class i ≡ 2 → ⊥) → (0 ≡ number_of e i) × (fills e i ≡ false)
+pub no_out : (e : Elements) (i : ℕ) → eqb (e.class i) 2 ≡ false → (0 ≡ number_of e i) × (fills e i ≡ false)
 unfolding number_of fills
-no_out e i n =
-    let q = ne_eqb (e.class i) 2 n in
+no_out e i q =
     (sym (ap (λ (b : Bool). pick b (tried_of e i).number 0) q), ap (λ (b : Bool). b && (eqb (out_at e (e.pin i)) i && eqb (tried_of e i).number 0)) q)
 
 -- no reason has number 0
@@ -303,9 +301,6 @@ after_fine v new old l q w = w ∙ ap (λ (x : Verdict). after x new old) q
 -- where stage 6 lets pass, the lent memory holds what is new
 pub after_new : (v : Verdict) (new old l : List ℕ) → fine ≡ v → l ≡ after v new old → l ≡ new
 after_new v new old l q w = w ∙ ap (λ (x : Verdict). after x new old) (sym q)
-
-pub after_refused : (v : Verdict) (new old l : List ℕ) (n p : ℕ) → refused n p ≡ v → l ≡ old → l ≡ after v new old
-after_refused v new old l n p q w = w ∙ ap (λ (x : Verdict). after x new old) q
 
 pub zeros_long : (l l₀ : List ℕ) → l ≡ replicate (length l₀) 0 → 59049 ≤ length l₀ → 59049 ≤ length l
 zeros_long l l₀ q h = subst (λ (n : ℕ). 59049 ≤ n) (sym (ap length q ∙ length-replicate (length l₀) 0)) h

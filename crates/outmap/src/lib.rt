@@ -17,6 +17,14 @@ use cells::Cells;
 use std::array;
 use trees::Class;
 
+#[tactic(auto, using(trees::proofs::Classes::numbers))]
+fn is_out(parts: &[u32], i: usize) -> bool
+    requires { i < 64 }
+    ensures { result ≡ eqb ((elements_of parts.now).class i) 2 }
+{
+    matches!(reach::class_of(parts, i), Some(Class::Out))
+}
+
 // Element i is the OUT of its pin.
 fn is_first(parts: &[u32], i: usize) -> bool
     requires { i < 64 }
@@ -35,20 +43,22 @@ fn take_out(parts: &[u32], i: usize, room: &mut [u8], cells: &mut Cells) -> Resu
     ensures room_unchanged { room.new ≡ room.old }
     ensures cells_after { Placed (elements_of parts.now) i cells.old cells.new }
 {
-    if !matches!(reach::class_of(parts, i), Some(Class::Out)) {
+    if !is_out(parts, i) {
         return Ok(());
     }
     let fitted = outputs::try_out(parts, i, room)?;
     if is_first(parts, i) {
         let k = 23 - trees::at(parts, trees::PIN_AT + i);
-        cells.masks[k] = fitted.masks;
+        let masks = fitted.masks;
+        cells.masks[k] = masks;
         cells.counts[k] = fitted.n as u8;
         cells.s0s[k] = basics::byte_of(fitted.s0);
     }
     Ok(())
 }
 
-// The kind of cell k.
+// The kind of cell k: 0 unused, 1 combinational, 2 registered.
+// Kept: a byte and no enum, since cells::Cells holds kinds as the numbers that the definition map_of reads.
 fn kind_of(parts: &[u32], k: usize) -> u8
     requires { k < 10 }
     ensures { result ≡ code (kind_of (elements_of parts.now) k) }
@@ -102,6 +112,7 @@ fn fact(cells: &Cells, j: usize) -> u32
     }
 }
 
+#[tactic(auto, using(basics::proofs::Folds::listing_end))]
 fn write_facts(cells: &Cells, facts: &mut [u32])
     requires facts_len { length facts.old ≡ 20 }
     requires few { Few cells.now.counts }
@@ -113,7 +124,12 @@ fn write_facts(cells: &Cells, facts: &mut [u32])
 }
 
 // Stage 6, and where it lets pass the whole map of the module, and what fit lines count.
-pub fn map_outputs(parts: &[u32], room: &mut [u8], map: &mut [u8], facts: &mut [u32]) -> Result<(), Refusal>
+pub fn map_outputs(
+    parts: &[u32],
+    room: &mut [u8],
+    map: &mut [u8],
+    facts: &mut [u32],
+) -> Result<(), Refusal>
     requires parts_value { stage_five (elements_of parts.now) ≡ fine }
     requires in_bounds { 59049 ≤ length room.old }
     requires map_len { length map.old ≡ 5892 }
