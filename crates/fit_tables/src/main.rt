@@ -4,6 +4,7 @@
 
 ghost use Rattle.std.specs.Prelude.{◌-◌, ◌<◌, ◌≤◌, length, IfOk};
 
+use cells::Cells;
 use fit::Fitted;
 use std::io;
 use std::io::Write;
@@ -266,22 +267,27 @@ fn put_cells<W: Write>(to: &mut W, cells: &[Option<Cell>; 10]) -> io::Result<()>
     Ok(())
 }
 
-// Writes the map of the cells.
-fn write_map(cells: &[Option<Cell>; 10], map: &mut [u8; 5892]) {
-    let mut products = [[0; 16]; 10];
+// The cells as their map is written from them.
+fn written_cells(cells: &[Option<Cell>; 10]) -> Cells {
+    let mut masks = [[0; 16]; 10];
     let mut counts = [0; 10];
-    // Kept: cells::write_map and its definition map_of take kinds as numbers, 0 for a cell that is not in use, 1 combinational, 2 registered.
+    // Kept: `Cells` and the definition `map_of` take kinds as numbers, 0 for a cell that is not in use, 1 combinational, 2 registered.
     let mut kinds = [0; 10];
     let mut s0s = [0; 10];
     for k in 0..10 {
         if let Some(Cell { registered, fitted }) = cells[k] {
-            products[k] = fitted.masks;
+            masks[k] = fitted.masks;
             counts[k] = (fitted.n % 256) as u8;
             kinds[k] = if registered { 2 } else { 1 };
             s0s[k] = basics::byte_of(fitted.s0);
         }
     }
-    cells::write_map(products, counts, kinds, s0s, map);
+    Cells {
+        masks,
+        counts,
+        kinds,
+        s0s,
+    }
 }
 
 // The sum of fuses in bytes, a byte's lowest fuse in its lowest bit.
@@ -298,7 +304,7 @@ fn fuse_sum(map: &[u8; 5892]) -> u16 {
 // The fuse sum of the map of these cells, in four hex digits.
 fn put_sum<W: Write>(to: &mut W, cells: &[Option<Cell>; 10]) -> io::Result<()> {
     let mut map = [0; 5892];
-    write_map(cells, &mut map);
+    written_cells(cells).write_map(&mut map);
     writeln!(to, "{:04X}", fuse_sum(&map))
 }
 
