@@ -97,26 +97,6 @@ impl Cells {
     }
 }
 
-// Writes the whole map of ten cells.
-pub fn write_map(
-    masks: [[Product; 16]; 10],
-    counts: [u8; 10],
-    kinds: [u8; 10],
-    s0s: [u8; 10],
-    map: &mut [u8],
-)
-    requires { length map.old ≡ 5892 }
-    ensures { map.new ≡ map_of masks counts kinds s0s }
-{
-    let cells = Cells {
-        masks,
-        counts,
-        kinds,
-        s0s,
-    };
-    cells.write_map(map);
-}
-
 // The cell that row r belongs to.
 fn cell_at(r: usize) -> usize
     ensures { result ≡ cell_at r }
