@@ -10,6 +10,7 @@ use rows::{Product, Row};
 
 // Ten fitted cells, that of pin 23 first: the masks of each cell's products in their order, how many they are, the cell's kind (0 unused, 1 combinational,
 // 2 registered) and its S0.
+// Kept: four arrays by cell, kinds by number, and no array of cells: `map_of` of specs/Map, `Fits` and the theorem `behaves` of behave speak of these lists.
 #[derive(Clone, Copy)]
 pub struct Cells {
     pub masks: [[Product; 16]; 10],
@@ -96,35 +97,11 @@ impl Cells {
     }
 }
 
-// Writes the whole map of ten cells.
-pub fn write_map(
-    masks: [[Product; 16]; 10],
-    counts: [u8; 10],
-    kinds: [u8; 10],
-    s0s: [u8; 10],
-    map: &mut [u8],
-)
-    requires { length map.old ≡ 5892 }
-    ensures { map.new ≡ map_of masks counts kinds s0s }
-{
-    let cells = Cells {
-        masks,
-        counts,
-        kinds,
-        s0s,
-    };
-    cells.write_map(map);
-}
-
 // The cell that row r belongs to.
 fn cell_at(r: usize) -> usize
     ensures { result ≡ cell_at r }
 {
-    let mut n = 0;
-    for k in 0..9 {
-        n += basics::byte_of(device::enable(k + 1) as usize <= r) as usize;
-    }
-    n
+    (1..10).filter(|&k| device::enable(k) as usize <= r).count()
 }
 
 // Writes row r.
@@ -137,13 +114,14 @@ fn write_row(map: &mut [u8], r: usize, row: &Row)
 }
 
 // The factors of the first n products together.
+#[tactic(auto, using(crate::proofs::Summing::step))]
 pub fn factors(masks: [Product; 16], n: usize) -> u32
     requires { n ≤ 16 }
     ensures { result ≡ picks (take n masks) }
 {
     let mut sum = 0;
-    for i in 0..n {
-        sum += ((masks[i] % 4294967296) as u32).count_ones();
+    for mask in &masks[..n] {
+        sum += ((mask % 4294967296) as u32).count_ones();
     }
     sum
 }
