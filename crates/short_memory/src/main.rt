@@ -2,7 +2,7 @@
 // the memory holds then: refusal 13 leaves the output as it was, and the working room is zeroed either way.
 #![tactic(auto)]
 
-use kinvlopt::{Compiled, Fitted, Graded, Written};
+use kinvlopt::{Compiled, Fitted, Graded};
 use std::io;
 use std::io::Write;
 
@@ -86,8 +86,8 @@ fn try_ask<W: Write>(to: &mut W, text: &[u8], room: &mut [u8]) -> io::Result<()>
 fn try_write<W: Write>(to: &mut W, map: &[u8], out: &mut [u8]) -> io::Result<()> {
     put_lengths(to, "write", out.len(), 0)?;
     match kinvlopt::write(map, out) {
-        Written::File { len } => put_bytes(to, len)?,
-        Written::Refused { number, place } => put_refusal(to, number, place)?,
+        Ok(len) => put_bytes(to, len)?,
+        Err(refusal) => put_refusal(to, refusal.reason.number(), refusal.place)?,
     }
     put_memory(to, out, b"")
 }
