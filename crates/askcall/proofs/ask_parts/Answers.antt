@@ -1,6 +1,5 @@
-use mathlib.Core.Path.{sym, ap, ◌∙◌}
+use mathlib.Core.Path.{sym}
 use native.Mathlib.Omega.{arith}
-use Rattle.outmap.specs.Sixth.{seen}
 use Rattle.askcall.proofs.Laws.{zeros_long, asked_fits, asked_misfits}
 use borrow.Author.Rules.{rules}
 use Rattle.askcall.proofs.ask_parts.Goals as goal
@@ -26,4 +25,4 @@ returns-in-Ok c =
 
 pub returns-in-Err : goal.returns-in-Err
 returns-in-Err c =
-    asked_misfits _ _ _ _ _ _ _ c.in-Err.ensures.result_value c.map_outputs.ensures.room_after
+    rw c.number.ensures (asked_misfits _ _ _ _ _ _ _ c.in-Err.ensures.result_value c.map_outputs.ensures.room_after)

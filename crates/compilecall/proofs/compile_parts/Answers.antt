@@ -1,9 +1,7 @@
-use mathlib.Core.Path.{sym, ap, ◌∙◌}
 use Rattle.fusetext.specs.File.{file_of}
 use Rattle.texts.proofs.Calling.{misfits}
 use Rattle.compilecall.specs.Compiling.{compiled_as}
 use Rattle.compilecall.proofs.Laws.{fit_is_map, file_fits}
-use Rattle.outmap.specs.Sixth.{seen}
 use native.Mathlib.Omega.{arith}
 use borrow.Author.Rules.{rules}
 use Rattle.compilecall.proofs.compile_parts.Goals as goal
@@ -28,4 +26,4 @@ returns-in-Ok c =
 
 pub returns-in-Err : goal.returns-in-Err
 returns-in-Err c =
-    misfits compiled_as file_of _ _ _ _ _ _ c.in-Err.ensures.result_value c.map_outputs.ensures.room_after
+    rw c.number.ensures (misfits compiled_as file_of _ _ _ _ _ _ c.in-Err.ensures.result_value c.map_outputs.ensures.room_after)

@@ -2,8 +2,6 @@ use Rattle.fitlines.specs.Lines.{fit_lines}
 use Rattle.texts.proofs.Calling.{misfits}
 use Rattle.fitcall.specs.Fitting.{fitted_as}
 use Rattle.fitcall.proofs.Laws.{lines_fit}
-use Rattle.outmap.specs.Sixth.{seen}
-use mathlib.Core.Path.{sym, ap, ◌∙◌}
 use native.Mathlib.Omega.{arith}
 use borrow.Author.Rules.{rules}
 use Rattle.fitcall.proofs.fit_parts.Goals as goal
@@ -22,4 +20,4 @@ returns-in-Ok c =
 
 pub returns-in-Err : goal.returns-in-Err
 returns-in-Err c =
-    misfits fitted_as fit_lines _ _ _ _ _ _ c.in-Err.ensures.result_value c.map_outputs.ensures.room_after
+    rw c.number.ensures (misfits fitted_as fit_lines _ _ _ _ _ _ c.in-Err.ensures.result_value c.map_outputs.ensures.room_after)
