@@ -12,6 +12,8 @@ use Rattle.basics.specs.Choice.{pick, bit}
 use Rattle.basics.specs.Refusal.{number_of as reason_number}
 use Rattle.basics.specs.declared.refusal.Reason.{Reason}
 use Rattle.basics.specs.declared.refusal.Reason.TheVariants.{Length, Grammar, Arithmetic, Name, Index, Limit, Assignment, Register, Loop, Position, Pins, Products, Memory, Question, Form, Device, Fuse, FuseSum, ByteSum, Model, Map, Value}
+use Rattle.cells.specs.Kind.{numbers}
+use Rattle.cells.specs.declared.Kind.{Kind}
 use Rattle.cells.specs.declared.Cells.{Cells}
 use Rattle.fit.specs.declared.Fitted.{Fitted}
 use Rattle.basics.specs.Below.{all_below, listed}
@@ -223,10 +225,10 @@ pub record Turned (e : Elements) (cells : Cells) (i : ℕ) : Type 0 where
   pub none : None (misfits e) 64 i
   pub masks : Held e (λ t. t.masks) [] cells.masks i
   pub counted : Held e (λ t. t.n) 0 cells.counts i
-  pub kinds : cells.kinds ≡ kinds_of e
+  pub kinds : numbers cells.kinds ≡ kinds_of e
   pub polar : Held e (λ t. bit t.s0) 0 cells.s0s i
 
-pub turned_start : (e : Elements) (kinds : List ℕ) → kinds ≡ kinds_of e
+pub turned_start : (e : Elements) (kinds : List Kind) → numbers kinds ≡ kinds_of e
     → Turned e (record { masks = replicate 10 (replicate 16 0); counts = replicate 10 0; kinds = kinds; s0s = replicate 10 0 }) 0
 turned_start e kinds q =
     record { none = none_start (misfits e) 64; masks = held_start e (λ t. t.masks) [] _ refl; counted = held_start e (λ t. t.n) 0 _ refl; kinds = q; polar = held_start e (λ t. bit t.s0) 0 _ refl }
@@ -238,7 +240,7 @@ turned_more e c c' i ok h t q p =
       none = none_more (misfits e) 64 i h t.none (passes e i w);
       masks = subst (λ (l : List (List ℕ)). Held e (λ t. t.masks) [] l (i + 1)) (sym p.masks_after) (held_more e (λ t. t.masks) [] c.masks i (fitted_out e i).masks ok h w t.masks refl);
       counted = subst (λ (l : List ℕ). Held e (λ t. t.n) 0 l (i + 1)) (sym p.counts_after) (held_more e (λ t. t.n) 0 c.counts i (fitted_out e i).n ok h w t.counted refl);
-      kinds = p.kinds_after ∙ t.kinds;
+      kinds = ap numbers p.kinds_after ∙ t.kinds;
       polar = subst (λ (l : List ℕ). Held e (λ t. bit t.s0) 0 l (i + 1)) (sym p.s0s_after) (held_more e (λ t. bit t.s0) 0 c.s0s i (bit (fitted_out e i).s0) ok h w t.polar refl);
     }
 

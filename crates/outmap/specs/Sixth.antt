@@ -7,6 +7,7 @@ use Rattle.trees.specs.Layout.{Elements}
 use Rattle.circuit.specs.StageFive.{Verdict}
 use Rattle.circuit.specs.StageFive.Verdict.{fine, refused}
 use Rattle.meaning.specs.Circuit.{out_at}
+use Rattle.cells.specs.Kind.{numbers}
 use Rattle.cells.specs.Counts.{picks}
 use Rattle.cells.specs.declared.Cells.{Cells}
 use Rattle.outputs.specs.Trial.{tried_of}
@@ -51,7 +52,7 @@ pub record Placed (e : Elements) (i : ℕ) (old new : Cells) : Type 0 where
 pub record Fitting (e : Elements) (cells : Cells) : Type 0 where
   pub masks_are : cells.masks ≡ masks_of e
   pub counts_are : cells.counts ≡ counts_of e
-  pub kinds_are : cells.kinds ≡ kinds_of e
+  pub kinds_are : numbers cells.kinds ≡ kinds_of e
   pub s0s_are : cells.s0s ≡ s0s_of e
 
 -- no cell has more than sixteen products

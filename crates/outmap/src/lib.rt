@@ -8,12 +8,13 @@ ghost use Rattle.trees.specs.Layout.{elements_of};
 ghost use Rattle.circuit.specs.StageFive.{stage_five};
 ghost use Rattle.circuit.specs.StageFive.Verdict.{fine};
 ghost use Rattle.meaning.specs.Circuit.{out_at};
+ghost use Rattle.cells.specs.Kind.{kind_number, numbers};
 ghost use Rattle.behave.specs.Cells.{code};
 ghost use Rattle.outputs.specs.Outputs.{kind_of, stage_six, map_for, kinds_of};
 ghost use Rattle.outmap.specs.Sixth.{seen, after, facts_of, number_of, Placed, Fitting, Few, fact_at};
 
 use basics::refusal::{Reason, Refusal};
-use cells::Cells;
+use cells::{Cells, Kind};
 use std::array;
 use trees::Class;
 
@@ -57,21 +58,20 @@ fn take_out(parts: &[u32], i: usize, room: &mut [u8], cells: &mut Cells) -> Resu
     Ok(())
 }
 
-// The kind of cell k: 0 unused, 1 combinational, 2 registered.
-// Kept: a byte and no enum, since cells::Cells holds kinds as the numbers that the definition map_of reads.
-fn kind_of(parts: &[u32], k: usize) -> u8
+// The kind of cell k.
+fn kind_of(parts: &[u32], k: usize) -> Kind
     requires { k < 10 }
-    ensures { result ≡ code (kind_of (elements_of parts.now) k) }
+    ensures { kind_number result ≡ code (kind_of (elements_of parts.now) k) }
 {
     match tables::out_at(parts, 23 - k) {
-        None => 0,
-        Some(o) if reach::registered(parts, o) => 2,
-        Some(_) => 1,
+        None => Kind::Unused,
+        Some(o) if reach::registered(parts, o) => Kind::Registered,
+        Some(_) => Kind::Combinational,
     }
 }
 
-fn kinds_of(parts: &[u32]) -> [u8; 10]
-    ensures { result ≡ kinds_of (elements_of parts.now) }
+fn kinds_of(parts: &[u32]) -> [Kind; 10]
+    ensures { numbers result ≡ kinds_of (elements_of parts.now) }
 {
     array::from_fn(|k| kind_of(parts, k))
 }
