@@ -21,9 +21,8 @@ use Rattle.device.specs.Device.{column_of, pair_of}
 use Rattle.rows.proofs.Rows.{setting_at_lem, setting_size}
 use Rattle.gal.specs.Map.{is_cell, enabled, registered}
 use Rattle.gal.specs.Refuse.{callers, wrong, wrong_pins, wrong_bits, no_values}
-use Rattle.gal.specs.Model.{modelled}
-use Rattle.gal.specs.declared.Answer.{Answer}
-use Rattle.gal.specs.declared.Verdict.TheVariants.{Shown}
+use Rattle.gal.specs.Model.{Answer, modelled}
+use Rattle.gal.specs.Model.Verdict.{Shown}
 use Rattle.behave.specs.Cells.{in_use, holds, value, signal_of, setting_for, shown_of, value_of, next_of, answer_of}
 use Rattle.behave.proofs.Emitted.{none_of}
 use Rattle.behave.proofs.Behaves.{held_is, use_is, behaves}

@@ -7,9 +7,8 @@ use Rattle.meaning.specs.Circuit.{Circuit, circuit_of}
 use Rattle.tables.specs.Tables.{flip_at}
 use Rattle.device.specs.Device.{pair_of}
 use Rattle.gal.specs.Map.{is_cell}
-use Rattle.gal.specs.declared.Answer.{Answer}
-use Rattle.gal.specs.declared.Verdict.{Verdict}
-use Rattle.gal.specs.declared.Verdict.TheVariants.{Shown}
+use Rattle.gal.specs.Model.{Answer, Verdict}
+use Rattle.gal.specs.Model.Verdict.{Shown}
 
 -- the value of each pin where the twenty-two variables are s: variable i is that of column pair 21 - i
 unfoldable pub pins_at : Elements → List Bool → ℕ → Bool

@@ -2,18 +2,12 @@
 // other error of a read is handed on.
 #![tactic(auto)]
 
-ghost use Rattle.std.specs.Prelude.{◌≡◌, ◌≢◌, ℕ, ◌≤◌, length, IfOk, IfErr, IfSome, IsTrue, ◌↔◌};
+ghost use Rattle.std.specs.Prelude.{◌≡◌, ◌≢◌, ℕ, ◌≤◌, length, IfOk, IfErr, IfSome};
 ghost use Rattle.std.specs.IoError.{error_kind};
+ghost use Rattle.answers.specs.Line.{kept};
 
 use std::io;
-use std::io::{Error, ErrorKind, Read};
-
-// Whether a read that failed so may be tried again.
-fn is_interrupted(e: &Error) -> bool
-    ensures { IsTrue result ↔ (error_kind e.now ≡ ErrorKind.Interrupted) }
-{
-    e.kind() == ErrorKind::Interrupted
-}
+use std::io::{ErrorKind, Read, Write};
 
 // One read into the room; nothing is taken where it is interrupted.
 fn read_some<R: Read>(from: &mut R, room: &mut [u8]) -> io::Result<Option<usize>>
@@ -22,12 +16,8 @@ fn read_some<R: Read>(from: &mut R, room: &mut [u8]) -> io::Result<Option<usize>
 {
     match from.read(room) {
         Ok(n) => Ok(Some(n)),
-        Err(e) => {
-            if is_interrupted(&e) {
-                return Ok(None);
-            }
-            Err(e)
-        }
+        Err(e) if e.kind() == ErrorKind::Interrupted => Ok(None),
+        Err(e) => Err(e),
     }
 }
 
@@ -66,64 +56,71 @@ pub fn whole_length<R: Read>(from: &mut R, had: usize) -> io::Result<usize>
     ensures retried { IfErr result (λ e. error_kind e ≢ ErrorKind.Interrupted) }
 {
     let mut total = had;
-    while total < 4611686018427387904 {
-        let n = more(from)?;
-        if n < 1 {
-            return Ok(total);
+    while total < 1 << 62 {
+        match more(from)? {
+            0 => break,
+            n => total += n,
         }
-        total += n;
     }
     Ok(total)
 }
 
-// How much of a line was kept, and whether LF ended it.
+// A line: how many bytes of it were kept, and what ended it.
 #[derive(Clone, Copy)]
-pub struct Line {
-    pub len: usize,
-    pub ended: bool,
+pub enum Line {
+    // LF came behind it.
+    Ended(usize),
+    // What is read ended first.
+    Last(usize),
 }
 
 // Keeps a byte where there is room for it.
 fn keep(buf: &mut [u8], n: usize, b: u8) -> usize
     requires { n ≤ length buf.old }
-    ensures { result ≤ length buf.new }
+    ensures within { result ≤ length buf.new }
+    ensures size { length buf.new ≡ length buf.old }
 {
     if n < buf.len() {
         buf[n] = b;
-        return n + 1;
+        n + 1
+    } else {
+        n
     }
-    n
 }
 
 // Reads a line, and keeps as much of it as there is room for.
 pub fn read_line<R: Read>(from: &mut R, buf: &mut [u8]) -> io::Result<Line>
-    ensures within { IfOk result (λ line. line.len ≤ length buf.new) }
+    ensures within { IfOk result (λ line. kept line ≤ length buf.new) }
     ensures retried { IfErr result (λ e. error_kind e ≢ ErrorKind.Interrupted) }
     ensures size { length buf.new ≡ length buf.old }
 {
     let mut one = [0u8; 1];
-    let mut n: usize = 0;
-    let mut left: usize = 1000000000000;
-    while 0 < left {
-        left = left - 1;
-        let got = read_full(from, &mut one)?;
-        if got == 0 {
-            return Ok(Line {
-                len: n,
-                ended: false,
-            });
+    let mut n = 0;
+    for _ in 0..1000000000000u64 {
+        if read_full(from, &mut one)? == 0 {
+            break;
         }
-        let b = one[0];
-        if b == 10 {
-            return Ok(Line {
-                len: n,
-                ended: true,
-            });
+        if one[0] == b'\n' {
+            return Ok(Line::Ended(n));
         }
-        n = keep(buf, n, b);
+        n = keep(buf, n, one[0]);
     }
-    Ok(Line {
-        len: n,
-        ended: false,
-    })
+    Ok(Line::Last(n))
+}
+
+// Reads a text, up to 32,769 bytes of it, and prints what the call answers: so many first bytes of the output that it is lent beside a room.
+pub fn answer_text<R: Read, W: Write, F: Fn(&[u8], &mut [u8; 7154], &mut [u8; 65536]) -> usize>(
+    from: &mut R,
+    to: &mut W,
+    call: F,
+) -> io::Result<()>
+    requires callable { F.IsAlwaysCallable call }
+    requires within { (text : _) (out : _) (room : _) (n : _) (out_after : _) (room_after : _) → F.post call text out room n out_after room_after → n ≤ 7154 }
+{
+    let mut text = [0u8; 32769];
+    let mut out = [0u8; 7154];
+    let mut room = [0u8; 65536];
+    let n = read_full(from, &mut text)?;
+    let k = call(&text[..n], &mut out, &mut room);
+    to.write_all(&out[..k])
 }

@@ -18,7 +18,7 @@ use Rattle.gal.specs.Refuse.{no_values}
 use Rattle.gal.specs.Show.{shown_at, cell_value, value_at, shown_pins, value_pins}
 use Rattle.gal.specs.Clock.{next_at, next_bits}
 use Rattle.gal.specs.Model.{refusal, answered, modelled}
-use Rattle.gal.specs.declared.Verdict.TheVariants.{Shown}
+use Rattle.gal.specs.Model.Verdict.{Shown}
 use Rattle.cells.specs.Map.{map_of}
 use Rattle.behave.specs.Cells.{Kind, in_use, holds, Cells, value, Fits, Grounded, signal_of, setting_for, shows, shown_of, value_of, next_of, answer_of}
 use Rattle.behave.specs.Cells.Kind.{unused, combinational, registered as register}

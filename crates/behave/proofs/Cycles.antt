@@ -13,8 +13,7 @@ use Rattle.basics.proofs.Folds.{any_same, listed_at}
 use Rattle.sums.proofs.Named.{Each}
 use Rattle.gal.specs.Map.{registered, enabled, is_cell}
 use Rattle.gal.specs.Refuse.{callers, wrong, wrong_pins, wrong_bits, no_values}
-use Rattle.gal.specs.Model.{run_from, runs}
-use Rattle.gal.specs.declared.Answer.{Answer}
+use Rattle.gal.specs.Model.{Answer, run_from, runs}
 use Rattle.cells.specs.Map.{map_of}
 use Rattle.behave.specs.Cells.{in_use, holds, Cells, value, Fits, Grounded, setting_for, next_of, answer_of, givable, refused_pins, cycles_of}
 use Rattle.behave.proofs.Emitted.{none_of}

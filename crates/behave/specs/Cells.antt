@@ -10,8 +10,8 @@ use Rattle.device.specs.Device.{column_of}
 use Rattle.rows.specs.Setting.{setting_of}
 use Rattle.gal.specs.Map.{is_cell}
 use Rattle.gal.specs.Refuse.{wrong}
-use Rattle.gal.specs.declared.Answer.{Answer}
-use Rattle.gal.specs.declared.Verdict.TheVariants.{Shown}
+use Rattle.gal.specs.Model.{Answer}
+use Rattle.gal.specs.Model.Verdict.{Shown}
 
 pub data Kind : Type 0 where
   unused combinational registered : Kind

@@ -53,6 +53,7 @@ fn first_misassigned(parts: &[u32]) -> Option<usize>
 }
 
 // No REG among the nodes.
+#[tactic(auto, using(crate::proofs::Placing::plain_next, crate::proofs::Placing::plain_none))]
 fn is_plain(nodes: &[u32]) -> bool
     ensures { result ≡ plain_n nodes.now }
 {

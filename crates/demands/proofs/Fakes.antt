@@ -9,7 +9,6 @@ use lib.Dec.{eqb, leb}
 use Rattle.basics.proofs.Truth.{clash}
 use Rattle.meaning.specs.Circuit.{Circuit, circuit_of, runs, SameCircuit}
 use Rattle.agree.specs.Pins.{Cycle, seen, seen_of}
-use Rattle.gal.specs.declared.Answer.{Answer}
 use Rattle.fusetext.specs.Outcome.{gives, refuses}
 use Rattle.fusetrip.proofs.Example.{example_file}
 use Rattle.texts.specs.Meaning.{means, circuit_in}
@@ -29,7 +28,7 @@ use Rattle.meaning.specs.Meaning.{value, shows_next}
 use Rattle.texts.specs.Calls.{compiled_of}
 use Rattle.texts.specs.Meaning.{meaning}
 use Rattle.basics.specs.Choice.{pick}
-use Rattle.gal.specs.Model.{runs as modelRuns}
+use Rattle.gal.specs.Model.{Answer, runs as modelRuns}
 use Rattle.fusefields.specs.Bytes.{not_end, not_star, front}
 use Rattle.fuseread.specs.Reading.{opened, read_of}
 use Rattle.texts.specs.Meaning.{is_given, setting_for}

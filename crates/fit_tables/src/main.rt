@@ -2,35 +2,56 @@
 // prints a line for each cell, rising by pin, and the fuse sum of the whole map, or `12 PIN` for the first line that doesn't fit; then `.`.
 #![tactic(auto)]
 
-ghost use Rattle.std.specs.Prelude.{◌≡◌, ◌^◌, ◌<◌, length};
+ghost use Rattle.std.specs.Prelude.{◌-◌, ◌<◌, ◌≤◌, length, IfOk};
 
+use cells::{Cells, Kind};
 use fit::Fitted;
-use rows::Product;
 use std::io;
 use std::io::Write;
 
-const POWERS: [usize; 10] = [1, 2, 4, 8, 16, 32, 64, 128, 256, 512];
-
-const WEIGHTS: [u32; 8] = [1, 2, 4, 8, 16, 32, 64, 128];
-
-const BITS: [u32; 22] = [
-    1, 2, 4, 8, 16, 32, 64, 128, 256, 512, 1024, 2048, 4096, 8192, 16384, 32768, 65536, 131072,
-    262144, 524288, 1048576, 2097152,
-];
-
-// The byte at i, 0 behind the end.
-fn at(text: &[u8], i: usize) -> u8 {
-    if i < text.len() { text[i] } else { 0 }
+// A cell in use, and what it is fitted with.
+#[derive(Clone, Copy)]
+struct Cell {
+    registered: bool,
+    fitted: Fitted,
 }
 
-// d bytes further, at most to the end.
-fn ahead(text: &[u8], i: usize, d: usize) -> usize {
-    if i < text.len() {
-        if d < text.len() - i {
-            return i + d;
-        }
+// A variable that a table names: the bit of its pin in the number of a setting, and whether the variable is the complement of what the pin has.
+#[derive(Clone, Copy)]
+struct Named {
+    bit: usize,
+    flipped: bool,
+}
+
+// The byte d further, 0 behind the end.
+fn at(text: &[u8], d: usize) -> u8 {
+    *text.get(d).unwrap_or(&0)
+}
+
+// What comes d bytes further, at most nothing.
+fn ahead(text: &[u8], d: usize) -> &[u8] {
+    &text[d.min(text.len())..]
+}
+
+// What comes behind the line.
+fn next_line(text: &[u8]) -> &[u8]
+    ensures { length result.now ≤ length text.now - 1 }
+{
+    match text.iter().position(|&b| b == b'\n') {
+        Some(i) => &text[i + 1..],
+        None => &text[text.len()..],
     }
-    text.len()
+}
+
+// What comes n lines later.
+fn skip(text: &[u8], n: usize) -> &[u8]
+    ensures { length result.now ≤ length text.now }
+{
+    let mut rest = text;
+    for _ in 0..n {
+        rest = next_line(rest);
+    }
+    rest
 }
 
 // The value of a digit.
@@ -38,452 +59,279 @@ fn digit(b: u8) -> usize
     ensures { result < 10 }
 {
     match b {
-        48 => 0,
-        49 => 1,
-        50 => 2,
-        51 => 3,
-        52 => 4,
-        53 => 5,
-        54 => 6,
-        55 => 7,
-        56 => 8,
-        57 => 9,
+        b'0'..=b'9' => (b - b'0') as usize,
         _ => 0,
     }
 }
 
-// The number of one or two digits that starts at i.
-fn number(text: &[u8], i: usize) -> usize
+// The number of one or two digits that the text begins with.
+fn number(text: &[u8]) -> usize
     ensures { result < 100 }
 {
-    let a = digit(at(text, i));
-    let second = at(text, ahead(text, i, 1));
-    if second < 48 {
-        return a;
+    let first = digit(at(text, 0));
+    match at(text, 1) {
+        ..b'0' => first,
+        second => first * 10 + digit(second),
     }
-    a * 10 + digit(second)
 }
 
 // How many digits it has.
-fn digits(text: &[u8], i: usize) -> usize {
-    if at(text, ahead(text, i, 1)) < 48 {
-        1
-    } else {
-        2
-    }
+fn digits(text: &[u8]) -> usize {
+    if at(text, 1) < b'0' { 1 } else { 2 }
 }
 
 // The cell of a pin.
-fn cell(pin: usize) -> usize
+fn cell_of(pin: usize) -> usize
     ensures { result < 10 }
 {
-    if pin < 14 {
-        return 0;
-    }
-    if 23 < pin {
-        return 0;
-    }
-    23 - pin
-}
-
-// The start of the next line.
-fn next(text: &[u8], from: usize) -> usize {
-    let mut i = from;
-    while i < text.len() {
-        if text[i] == 10 {
-            return i + 1;
-        }
-        i += 1;
-    }
-    text.len()
-}
-
-// 1 combinational, 2 registered.
-fn kind(text: &[u8], i: usize) -> u8 {
-    if at(text, ahead(text, i, 3)) == 82 {
-        2
-    } else {
-        1
+    match pin {
+        14..=23 => 23 - pin,
+        _ => 0,
     }
 }
 
-// 1 where a register's pin shows Q.
-fn polarity(text: &[u8], i: usize) -> u8 {
-    if at(text, ahead(text, i, 5)) == 76 {
-        0
-    } else {
-        1
-    }
+// Whether a line's cell is registered.
+fn is_registered(line: &[u8]) -> bool {
+    at(line, 3) == b'R'
+}
+
+// Whether a register's pin shows Q.
+fn shows_q(line: &[u8]) -> bool {
+    at(line, 5) != b'L'
 }
 
 // How many cells a batch has.
-fn lines(text: &[u8], from: usize) -> usize {
-    let mut i = from;
-    let mut turn: usize = 0;
-    while turn < 10 {
-        if at(text, i) < 48 {
-            return turn;
+fn cell_count(text: &[u8]) -> usize {
+    let mut rest = text;
+    for n in 0..10 {
+        if at(rest, 0) < b'0' {
+            return n;
         }
-        i = next(text, i);
-        turn += 1;
+        rest = next_line(rest);
     }
     10
 }
 
-// The start of the line that comes n lines later.
-fn skip(text: &[u8], from: usize, n: usize) -> usize {
-    let mut i = from;
-    let mut turn: usize = 0;
-    while turn < n {
-        i = next(text, i);
-        turn += 1;
+// Which of a batch's n cells show Q.
+fn shown_in(text: &[u8], n: usize) -> [bool; 10] {
+    let mut shown = [false; 10];
+    let mut line = text;
+    for _ in 0..n {
+        shown[cell_of(number(line))] = shows_q(line);
+        line = next_line(line);
     }
-    i
-}
-
-// The kinds and polarities of a batch's n cells.
-fn survey(text: &[u8], from: usize, n: usize, kinds: &mut [u8; 10], shown: &mut [u8; 10]) {
-    let mut i = from;
-    let mut turn: usize = 0;
-    while turn < n {
-        let k = cell(number(text, i));
-        kinds[k] = kind(text, i);
-        shown[k] = polarity(text, i);
-        i = next(text, i);
-        turn += 1;
-    }
+    shown
 }
 
 // The variable of a pin: the complement of its column pair's signal, counted from the last pair.
 fn variable(pin: usize) -> usize
     ensures { result < 22 }
 {
-    if pin < 2 {
-        return 0;
+    match pin {
+        2..=23 => 21 - device::pair(pin).min(21),
+        _ => 0,
     }
-    if 23 < pin {
-        return 0;
-    }
-    let p = device::pair(pin);
-    if 21 < p {
-        return 0;
-    }
-    21 - p
 }
 
-// 1 where the variable is the complement of what the pin has: an input, or a register whose pin shows the inverse of Q.
-fn flip(pin: usize, shown: &[u8; 10]) -> u8 {
-    if pin < 14 {
-        return 1;
-    }
-    let k = cell(pin);
-    if shown[k] == 1 { 0 } else { 1 }
+// Whether the variable is the complement of what the pin has: an input, or a register whose pin shows the inverse of Q.
+fn is_flipped(pin: usize, shown: &[bool; 10]) -> bool {
+    pin < 14 || !shown[cell_of(pin)]
 }
 
-// For each variable named: its pin's place among the pins named, from 1, and whether it is flipped. The place behind the names.
-fn names(
-    text: &[u8],
-    from: usize,
-    shown: &[u8; 10],
-    places: &mut [u8; 22],
-    flips: &mut [u8; 22],
-) -> usize {
-    let mut i = from;
-    let mut turn: u8 = 0;
-    while turn < 10 {
-        if at(text, i) < 48 {
-            return ahead(text, i, 2);
+// The pins that a line names, as variables, and what comes behind them.
+fn names<'a>(text: &'a [u8], shown: &[bool; 10]) -> ([Option<Named>; 22], &'a [u8]) {
+    let mut named = [None; 22];
+    let mut rest = text;
+    for turn in 0..10usize {
+        if at(rest, 0) < b'0' {
+            return (named, ahead(rest, 2));
         }
-        let pin = number(text, i);
-        let v = variable(pin);
-        places[v] = turn + 1;
-        flips[v] = flip(pin, shown);
-        i = ahead(text, i, digits(text, i));
-        if at(text, i) == 32 {
-            return ahead(text, i, 1);
+        let pin = number(rest);
+        named[variable(pin)] = Some(Named {
+            bit: 1 << turn,
+            flipped: is_flipped(pin, shown),
+        });
+        rest = ahead(rest, digits(rest));
+        let separator = at(rest, 0);
+        rest = ahead(rest, 1);
+        if separator == b' ' {
+            break;
         }
-        i = ahead(text, i, 1);
-        turn += 1;
     }
-    i
+    (named, rest)
 }
 
 // The variables named, as a mask.
-fn mask(places: &[u8; 22]) -> u32 {
-    let mut m: u32 = 0;
-    let mut v: usize = 0;
-    while v < 22 {
-        if places[v] != 0 {
-            m = m | BITS[v];
+fn mask(named: &[Option<Named>; 22]) -> u32 {
+    let mut m = 0;
+    for v in 0..22 {
+        if named[v].is_some() {
+            m |= 1 << v;
         }
-        v += 1;
     }
     m
 }
 
-// What a bit of the pins' setting weighs, where the variable has value b.
-fn weight(place: u8, flip: u8, b: usize) -> usize
-    ensures { result < 1024 }
-{
-    if 10 < place {
-        return 0;
-    }
-    if place == 0 {
-        return 0;
-    }
-    let w = POWERS[place as usize - 1] % 1024;
-    if flip == 1 {
-        if b == 1 { 0 } else { w }
-    } else {
-        if b == 1 { w } else { 0 }
-    }
-}
-
 // The setting of the pins at setting s of the variables.
-fn setting(places: &[u8; 22], flips: &[u8; 22], s: usize) -> usize {
+fn setting(named: &[Option<Named>; 22], s: usize) -> usize {
     let mut left = s;
-    let mut sum: usize = 0;
-    let mut v: usize = 0;
-    while v < 22 {
-        let p = places[v];
-        sum = (sum + weight(p, flips[v], left % 2)) % 1024;
-        if p != 0 {
-            left = left / 2;
+    let mut pins = 0;
+    for v in named {
+        if let Some(Named { bit, flipped }) = v {
+            if (left % 2 == 1) != *flipped {
+                pins |= *bit;
+            }
+            left /= 2;
         }
-        v += 1;
     }
-    sum
+    pins
 }
 
-// The table over the variables.
-fn build(text: &[u8], from: usize, places: &[u8; 22], flips: &[u8; 22], table: &mut [u8; 1024]) {
-    let mut s: usize = 0;
-    while s < 1024 {
-        let b = at(text, ahead(text, from, setting(places, flips, s)));
-        table[s] = if b == 49 { 1 } else { 0 };
-        s += 1;
+// The table over the variables, from the one over the pins.
+fn table_of(text: &[u8], named: &[Option<Named>; 22]) -> [u8; 1024] {
+    let mut table = [0; 1024];
+    for s in 0..1024 {
+        table[s] = basics::byte_of(at(text, setting(named, s)) == b'1');
     }
+    table
 }
 
-const SIZES: [usize; 11] = [1, 2, 4, 8, 16, 32, 64, 128, 256, 512, 1024];
-
-// How many settings n variables have.
-fn pow2(n: usize) -> usize
-    requires { n < 11 }
-    ensures { result ≡ 2 ^ n }
-{
-    SIZES[n]
-}
-
-// A cell that isn't fitted.
-fn none() -> Fitted {
-    Fitted {
-        ok: false,
-        s0: false,
-        n: 0,
-        masks: [0u64; 16],
-    }
-}
-
-// Cell k from the table of the variables named, which are at most ten.
-fn fit_named(
-    k: usize,
-    registered: bool,
-    s0: bool,
-    table: &[u8],
-    room: &mut [u8],
-    named: u32,
-) -> Fitted
-    requires { k < 10 }
-{
-    let n = cover::width(named);
-    if 10 < n {
-        return none();
-    }
-    if room.len() < 59049 {
-        return none();
-    }
-    let size = pow2(n);
-    if table.len() < size {
-        return none();
-    }
-    fit::fit_cell(k, registered, s0, &table[..size], room, n, named)
-}
-
-// The same from the first settings of a table of ten variables.
-fn fit_table(
+// Cell k from the table of the variables in the mask, if it fits.
+#[tactic(auto, using(crate::proofs::Powers::few))]
+fn fitted(
     k: usize,
     registered: bool,
     s0: bool,
     table: &[u8; 1024],
-    room: &mut [u8],
-    named: u32,
-) -> Fitted
+    mask: u32,
+    room: &mut [u8; 65536],
+) -> Option<Fitted>
     requires { k < 10 }
 {
-    fit_named(k, registered, s0, table, room, named)
+    let n = cover::width(mask);
+    if 10 < n {
+        return None;
+    }
+    let size = 2usize.pow(n as u32);
+    fit::fit_cell(k, registered, s0, &table[..size], room, n, mask)
 }
 
-// A table of ten variables.
-fn blank_table() -> [u8; 1024] {
-    [0; 1024]
+// The cell of a line, if it fits.
+fn cell_in(line: &[u8], shown: &[bool; 10], room: &mut [u8; 65536]) -> Option<Cell> {
+    let (named, rest) = names(ahead(line, 7), shown);
+    let table = table_of(rest, &named);
+    let k = cell_of(number(line));
+    let registered = is_registered(line);
+    let fitted = fitted(k, registered, shows_q(line), &table, mask(&named), room)?;
+    Some(Cell { registered, fitted })
 }
 
-// The cell of the line at i.
-fn fit_line(text: &[u8], i: usize, shown: &[u8; 10], room: &mut [u8]) -> Fitted {
-    let mut places = [0u8; 22];
-    let mut flips = [0u8; 22];
-    let from = names(text, ahead(text, i, 7), shown, &mut places, &mut flips);
-    let mut table = blank_table();
-    build(text, from, &places, &flips, &mut table);
-    let k = cell(number(text, i));
-    let registered = kind(text, i) == 2;
-    let s0 = polarity(text, i) == 1;
-    fit_table(k, registered, s0, &table, room, mask(&places))
-}
-
-fn kind_mark(kind: u8) -> &'static str {
-    if kind == 2 { "R" } else { "C" }
-}
-
-fn polarity_mark(s0: u8) -> &'static str {
-    if s0 == 1 { "H" } else { "L" }
+// The cells of a batch's n lines, or the pin of the first that doesn't fit.
+fn cells_in(text: &[u8], n: usize, room: &mut [u8; 65536]) -> Result<[Option<Cell>; 10], usize> {
+    let shown = shown_in(text, n);
+    let mut cells = [None; 10];
+    let mut line = text;
+    for _ in 0..n {
+        let pin = number(line);
+        let cell = cell_in(line, &shown, room).ok_or(pin)?;
+        cells[cell_of(pin)] = Some(cell);
+        line = next_line(line);
+    }
+    Ok(cells)
 }
 
 // The factors of a cell's products.
-fn factors(masks: [Product; 16], n: usize) -> u32 {
-    if 16 < n {
-        return 0;
+fn factors(fitted: &Fitted) -> u32 {
+    if fitted.n <= 16 {
+        cells::factors(fitted.masks, fitted.n)
+    } else {
+        0
     }
-    cells::factors(masks, n)
 }
 
 // The line of a cell.
-fn print_cell<W: Write>(
-    to: &mut W,
-    pin: usize,
-    kind: u8,
-    s0: u8,
-    n: usize,
-    masks: [Product; 16],
-) -> io::Result<()> {
-    let factors = factors(masks, n);
-    let kind = kind_mark(kind);
-    let s0 = polarity_mark(s0);
-    write!(to, "{pin} {kind} {s0} {n} {factors}\n")
-}
-
-// A byte as a number.
-fn wide(x: u8) -> usize {
-    x as usize
+fn put_cell<W: Write>(to: &mut W, pin: usize, cell: &Cell) -> io::Result<()> {
+    let fitted = &cell.fitted;
+    let kind = if cell.registered { 'R' } else { 'C' };
+    let s0 = if fitted.s0 { 'H' } else { 'L' };
+    writeln!(to, "{pin} {kind} {s0} {} {}", fitted.n, factors(fitted))
 }
 
 // The lines of the cells in use, rising by pin.
-fn print_cells<W: Write>(
-    to: &mut W,
-    all: [[Product; 16]; 10],
-    counts: [u8; 10],
-    kinds: [u8; 10],
-    s0s: [u8; 10],
-) -> io::Result<()> {
-    for j in 0..10 {
-        let k = 9 - j;
-        let masks = all[k];
-        if kinds[k] != 0 {
-            print_cell(to, 14 + j, kinds[k], s0s[k], wide(counts[k]), masks)?;
+fn put_cells<W: Write>(to: &mut W, cells: &[Option<Cell>; 10]) -> io::Result<()> {
+    for pin in 14..24 {
+        if let Some(cell) = &cells[23 - pin] {
+            put_cell(to, pin, cell)?;
         }
     }
     Ok(())
 }
 
-// 5,892 fuses.
-fn blank() -> [u8; 5892]
-    ensures { 5892 ≡ length result }
-{
-    [0; 5892]
+// The cells as their map is written from them.
+fn written_cells(cells: &[Option<Cell>; 10]) -> Cells {
+    let mut masks = [[0; 16]; 10];
+    let mut counts = [0; 10];
+    let mut kinds = [Kind::Unused; 10];
+    let mut s0s = [0; 10];
+    for k in 0..10 {
+        if let Some(Cell { registered, fitted }) = cells[k] {
+            masks[k] = fitted.masks;
+            counts[k] = (fitted.n % 256) as u8;
+            kinds[k] = if registered {
+                Kind::Registered
+            } else {
+                Kind::Combinational
+            };
+            s0s[k] = basics::byte_of(fitted.s0);
+        }
+    }
+    Cells {
+        masks,
+        counts,
+        kinds,
+        s0s,
+    }
 }
 
-// What fuse i weighs in its byte, lowest fuse in the lowest bit.
-fn fuse_weight(map: &[u8], i: usize) -> u32
-    requires { i < length map.now }
-{
-    if map[i] == 1 { WEIGHTS[i % 8] } else { 0 }
-}
-
-// The sum of fuses in bytes.
-fn fuse_sum(map: &[u8]) -> u32
-    ensures { result < 65536 }
-{
-    let mut sum: u32 = 0;
-    let mut i: usize = 0;
-    while i < map.len() {
-        sum = (sum + fuse_weight(map, i) % 256) % 65536;
-        i += 1;
+// The sum of fuses in bytes, a byte's lowest fuse in its lowest bit.
+fn fuse_sum(map: &[u8; 5892]) -> u16 {
+    let mut sum = 0u16;
+    for i in 0..5892 {
+        if map[i] == 1 {
+            sum = sum.wrapping_add(1 << (i % 8));
+        }
     }
     sum
 }
 
 // The fuse sum of the map of these cells, in four hex digits.
-fn print_map<W: Write>(
-    to: &mut W,
-    all: [[Product; 16]; 10],
-    counts: [u8; 10],
-    kinds: [u8; 10],
-    s0s: [u8; 10],
-) -> io::Result<()> {
-    let mut map = blank();
-    cells::write_map(all, counts, kinds, s0s, &mut map);
-    let sum = fuse_sum(&map);
-    write!(to, "{sum:04X}\n.\n")
+fn put_sum<W: Write>(to: &mut W, cells: &[Option<Cell>; 10]) -> io::Result<()> {
+    let mut map = [0; 5892];
+    written_cells(cells).write_map(&mut map);
+    writeln!(to, "{:04X}", fuse_sum(&map))
 }
 
-// The first cell that doesn't fit.
-fn print_refusal<W: Write>(to: &mut W, pin: usize) -> io::Result<()> {
-    write!(to, "12 {pin}\n.\n")
-}
-
-// One batch; the place behind it.
-fn batch<W: Write>(to: &mut W, text: &[u8], from: usize, room: &mut [u8]) -> io::Result<usize> {
-    let n = lines(text, from);
-    let behind = next(text, skip(text, from, n));
-    let mut kinds = [0u8; 10];
-    let mut shown = [0u8; 10];
-    survey(text, from, n, &mut kinds, &mut shown);
-    let mut all = [[0u64; 16]; 10];
-    let mut counts = [0u8; 10];
-    let mut s0s = [0u8; 10];
-    let mut i = from;
-    let mut turn: usize = 0;
-    while turn < n {
-        let f = fit_line(text, i, &shown, room);
-        let ok = f.ok;
-        if !ok {
-            print_refusal(to, number(text, i))?;
-            return Ok(behind);
+// One batch; what comes behind it.
+fn batch<'a, W: Write>(to: &mut W, text: &'a [u8], room: &mut [u8; 65536]) -> io::Result<&'a [u8]>
+    ensures { IfOk result (λ rest. length rest.now ≤ length text.now - 1) }
+{
+    let n = cell_count(text);
+    match cells_in(text, n, room) {
+        Ok(cells) => {
+            put_cells(to, &cells)?;
+            put_sum(to, &cells)?;
         }
-        let k = cell(number(text, i));
-        let masks = f.masks;
-        all[k] = masks;
-        counts[k] = (f.n % 256) as u8;
-        let s0 = f.s0;
-        s0s[k] = basics::byte_of(s0);
-        i = next(text, i);
-        turn += 1;
+        Err(pin) => writeln!(to, "12 {pin}")?,
     }
-    print_cells(to, all, counts, kinds, s0s)?;
-    print_map(to, all, counts, kinds, s0s)?;
-    Ok(behind)
+    writeln!(to, ".")?;
+    Ok(next_line(skip(text, n)))
 }
 
 // All batches.
-fn run<W: Write>(to: &mut W, text: &[u8], room: &mut [u8]) -> io::Result<()> {
-    let mut i: usize = 0;
-    while i < text.len() {
-        let behind = batch(to, text, i, room)?;
-        if behind <= i {
-            break;
-        }
-        i = behind;
+fn run<W: Write>(to: &mut W, text: &[u8], room: &mut [u8; 65536]) -> io::Result<()> {
+    let mut rest = text;
+    while !rest.is_empty() {
+        rest = batch(to, rest, room)?;
     }
     Ok(())
 }

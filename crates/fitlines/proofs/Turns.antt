@@ -28,22 +28,6 @@ length_level m k = go (plain_out m k)
     go true = refl
     go false = refl
 
-pub kind_registered : (m : List ℕ) (k : ℕ) → registered m k ≡ true → text "R " ≡ kind_of m k
-unfolding kind_of
-kind_registered m k e = rw e
-
-pub kind_combinational : (m : List ℕ) (k : ℕ) → registered m k ≡ false → text "C " ≡ kind_of m k
-unfolding kind_of
-kind_combinational m k e = rw e
-
-pub level_high : (m : List ℕ) (k : ℕ) → plain_out m k ≡ true → text "H " ≡ level_of m k
-unfolding level_of
-level_high m k e = rw e
-
-pub level_low : (m : List ℕ) (k : ℕ) → plain_out m k ≡ false → text "L " ≡ level_of m k
-unfolding level_of
-level_low m k e = rw e
-
 pub length_head : (m : List ℕ) (k : ℕ) → length (head_of m k) ≤ 25
 unfolding head_of
 length_head m k = simp length-append (omega (arith, length_decimal (23 - k), length_kind m k, length_level m k))

@@ -9,29 +9,31 @@ use fusetext::field::put_text;
 use lines::put_decimal;
 
 // R where cell k is registered, or C.
+#[tactic(auto, unfolding(crate::specs::Lines::kind_of))]
 fn put_kind(map: &[u8], k: usize, out: &mut [u8], at: usize) -> usize
     requires map_len { length map.now ≡ 5892 }
     requires k_bound { k < 10 }
     requires at_in_bounds { at + 2 ≤ length out.old }
     ensures { Wrote out.old at (kind_of map.now k) out.new result }
 {
-    if gal::is_registered(map, k) {
-        return put_text(b"R ", out, at);
-    }
-    put_text(b"C ", out, at)
+    let kind = if gal::is_registered(map, k) {
+        b"R "
+    } else {
+        b"C "
+    };
+    put_text(kind, out, at)
 }
 
 // H where S0 of cell k is 1, or L.
+#[tactic(auto, unfolding(crate::specs::Lines::level_of))]
 fn put_level(map: &[u8], k: usize, out: &mut [u8], at: usize) -> usize
     requires map_len { length map.now ≡ 5892 }
     requires k_bound { k < 10 }
     requires at_in_bounds { at + 2 ≤ length out.old }
     ensures { Wrote out.old at (level_of map.now k) out.new result }
 {
-    if gal::is_plain(map, k) {
-        return put_text(b"H ", out, at);
-    }
-    put_text(b"L ", out, at)
+    let level = if gal::is_plain(map, k) { b"H " } else { b"L " };
+    put_text(level, out, at)
 }
 
 // The pin, the kind and the level of cell k.
@@ -76,24 +78,24 @@ fn put_line_if(
     ensures { Wrote out.old at (line_if map.now k products factors) out.new result }
 {
     if gal::is_enabled(map, k) {
-        return put_line(map, k, products, factors, out, at);
+        put_line(map, k, products, factors, out, at)
+    } else {
+        at
     }
-    at
 }
 
 // The lines of a map into out, and how long they are: of each enabled cell, pins rising. Facts are the products of the ten cells, and then their factors.
+// Kept: products and factors are two lists in one slice: `lines_by` of specs/Lines reads them so, and the theorems of fitlaws and fitcall speak through it.
 pub fn put_lines(map: &[u8], facts: &[u32], out: &mut [u8]) -> usize
     requires map_len { length map.now ≡ 5892 }
     requires facts_len { length facts.now ≡ 20 }
     requires in_bounds { 670 ≤ length out.old }
     ensures { Wrote out.old 0 (lines_by map.now facts.now) out.new result }
 {
-    let mut n = 0;
     let mut at = 0;
-    while n < 10 {
+    for n in 0..10 {
         let k = 9 - n;
         at = put_line_if(map, k, facts[k], facts[10 + k], out, at);
-        n += 1;
     }
     at
 }

@@ -9,10 +9,12 @@ use lib.ListN.{length, get_or, drop}
 use Rattle.basics.specs.Choice.{pick}
 use Rattle.basics.specs.Below.{listed}
 use Rattle.basics.proofs.Folds.{listed_length, listed_at, any_hit}
-use Rattle.gal.specs.declared.Answer.{Answer}
-use Rattle.gal.specs.declared.Verdict.{Verdict}
-use Rattle.gal.specs.declared.Verdict.TheVariants.{Shown, Refused}
-use Rattle.gal.specs.Model.{modelled, refusal, answered}
+use Rattle.gal.specs.Model.Verdict.{Shown, Refused}
+use Rattle.std.specs.Prelude.{Result, Ok, Err}
+use Rattle.basics.specs.Refusal.{number_of}
+use Rattle.basics.specs.declared.refusal.Refusal.{Refusal}
+use Rattle.gal.specs.declared.Answer.{Answer as Pins}
+use Rattle.gal.specs.Model.{Answer, Verdict, answer_of, modelled, refusal, answered}
 use Rattle.gal.specs.Refuse.{no_map, outside, callers, wrong, wrong_pins, wrong_bits, no_values}
 use Rattle.lines.specs.Decimal.{spell, decimal, refusal_line}
 use Rattle.fusetext.specs.Put.{Wrote}
@@ -24,18 +26,19 @@ unfolding answer_to
 text_is m line bits pins a v eb ep ea ev =
     ap (λ (w : Verdict). text_for w a) (sym ev) ∙ ap (λ (x : Answer). text_for x.verdict x) (ea ∙ (λ i. modelled m (eb i) (ep i)))
 
-pub answer_shown : (m line bits pins : List ℕ) (a : Answer) (out now-out : List ℕ) → bits ≡ bits_of line → pins ≡ pins_of line → a ≡ modelled m bits pins → a.verdict ≡ Shown → 61 ≤ length out
-    → now-out ≡ listed (shown_byte a.shown a.values a.next) 61 ++ drop 61 out → Wrote out 0 (answer_to m line) now-out 61
-answer_shown m line bits pins a out now-out eb ep ea ev h w =
+pub answer_shown : (m line bits pins : List ℕ) (r : Result Pins Refusal) (a : Pins) (out now-out : List ℕ) → bits ≡ bits_of line → pins ≡ pins_of line → answer_of r ≡ modelled m bits pins
+    → r ≡ Ok a → 61 ≤ length out → now-out ≡ listed (shown_byte a.shown a.values a.next) 61 ++ drop 61 out → Wrote out 0 (answer_to m line) now-out 61
+answer_shown m line bits pins r a out now-out eb ep ea er h w =
     let f : ℕ → ℕ = shown_byte a.shown a.values a.next in
     let l : length (listed f 61) ≡ 61 = listed_length f 61 in
     wrote_as
     (record { room = omega arith; holds = w ∙ ap (λ (n : ℕ). listed f 61 ++ drop n out) (sym l) ∙ sym (put_front out (listed f 61)); ends = omega arith })
-    (text_is m line bits pins a Shown eb ep ea ev)
+    (text_is m line bits pins (answer_of (Ok a)) Shown eb ep (ap answer_of (sym er) ∙ ea) refl)
 
-pub answer_refused : (m line bits pins : List ℕ) (a : Answer) (number place : ℕ) {out now-out : List ℕ} {n : ℕ} → bits ≡ bits_of line → pins ≡ pins_of line → a ≡ modelled m bits pins
-    → a.verdict ≡ Refused number place → Wrote out 0 (refusal_line number place) now-out n → Wrote out 0 (answer_to m line) now-out n
-answer_refused m line bits pins a number place eb ep ea ev w = wrote_as w (text_is m line bits pins a (Refused number place) eb ep ea ev)
+pub answer_refused : (m line bits pins : List ℕ) (r : Result Pins Refusal) (a : Refusal) {out now-out : List ℕ} {k : ℕ} → bits ≡ bits_of line → pins ≡ pins_of line
+    → answer_of r ≡ modelled m bits pins → r ≡ Err a → Wrote out 0 (refusal_line (number_of a.reason) a.place) now-out k → Wrote out 0 (answer_to m line) now-out k
+answer_refused m line bits pins r a eb ep ea er w =
+    wrote_as w (text_is m line bits pins (answer_of (Err a)) (Refused (number_of a.reason) a.place) eb ep (ap answer_of (sym er) ∙ ea) refl)
 
 -- ---- what is not of the form is refused 32, once the map is taken
 

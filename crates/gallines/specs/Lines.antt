@@ -4,10 +4,8 @@ use Rattle.std.specs.Prelude.{Bool, ◌&&◌, List, ℕ, ◌+◌, ◌-◌, eqb, 
 use Rattle.basics.specs.Choice.{bit, on, pick}
 use Rattle.basics.specs.Below.{listed}
 use Rattle.lines.specs.Decimal.{refusal_line}
-use Rattle.gal.specs.declared.Answer.{Answer}
-use Rattle.gal.specs.declared.Verdict.{Verdict}
-use Rattle.gal.specs.declared.Verdict.TheVariants.{Shown, Refused}
-use Rattle.gal.specs.Model.{modelled}
+use Rattle.gal.specs.Model.Verdict.{Shown, Refused}
+use Rattle.gal.specs.Model.{Answer, Verdict, modelled}
 
 -- the value of a digit; a byte that is none counts as 10, which no fuse, pin or register can have
 unfoldable pub digit : ℕ → ℕ

@@ -8,7 +8,6 @@ ghost use Rattle.texts.specs.Stages.{fifth, fourth, declared, second, front_of};
 ghost use Rattle.lola.specs.Telling.{seen_front};
 
 use checking::Checked;
-use circuit::Judgement;
 use judging::Read;
 use names::Table;
 use words::Cursor;
@@ -21,12 +20,16 @@ pub enum Told {
 }
 
 // Stage 5, over all names.
+#[tactic(auto, unfolding(texts::specs::Stages::fifth))]
 fn judge_names(parts: &[u32]) -> Told
     ensures { seen_front result parts.now ≡ fifth parts.now }
 {
     match circuit::judge_all(parts) {
-        Judgement::Fine => Told::Fine,
-        Judgement::Refused { number, place } => Told::Refused { number, place },
+        Ok(()) => Told::Fine,
+        Err(r) => Told::Refused {
+            number: r.reason.number(),
+            place: r.place,
+        },
     }
 }
 

@@ -2,7 +2,7 @@
 -- Assumes nothing.
 use mathlib.Core.Path.{◌≡◌, refl, sym, ap, ◌∙◌}
 use mathlib.Core.List.{List, [], ◌∷◌}
-use Prim.Native.Nat.{ℕ, suc, ◌+◌, ◌-◌, ◌*◌, ◌/◌, ◌%◌, ◌≤◌, ◌<◌}
+use Prim.Native.Nat.{ℕ, suc, ◌+◌, ◌*◌, ◌/◌, ◌%◌, ◌≤◌, ◌<◌}
 use native.Mathlib.Omega.{arith}
 use lib.ListN.{length, get_or, set, drop, length-set, drop_of_length-le}
 use lib.Seq.{drop-cons, drop-set-lt, get_or-set_same, get_or-set_other}
@@ -41,21 +41,22 @@ two fs j x y h =
     ∙ ap (λ (r : List ℕ). get_or (set (set fs j x) (j + 1) y) j 0 ∷ r) (drop-cons (set (set fs j x) (j + 1) y) (suc j) 0 (omega arith))
     ∙ (λ i. a i ∷ b i ∷ c i)
 
-pub step : (N a₀ b₀ : ℕ) (fs : List ℕ) (a b left x y : ℕ) → 0 < left → Filling N a₀ b₀ fs a b left
+-- the pair before those that stand is filled
+pub step : (N a₀ b₀ : ℕ) (fs : List ℕ) (a b left pair after x y : ℕ) → pair + 1 ≡ left → pair ≡ after → Filling N a₀ b₀ fs a b left
     → x ≡ plain_fuse (on (a % 2)) (on (b % 2)) → y ≡ inverse_fuse (on (a % 2)) (on (b % 2))
-    → Filling N a₀ b₀ (set (set fs ((left - 1) * 2) x) ((left - 1) * 2 + 1) y) (a / 2) (b / 2) (left - 1)
-step N a₀ b₀ fs a b left x y h c ex ey =
-    let k = left - 1 in
+    → Filling N a₀ b₀ (set (set fs (pair * 2) x) (pair * 2 + 1) y) (a / 2) (b / 2) after
+step N a₀ b₀ fs a b left pair after x y h w c ex ey =
     let u = c.under in
     let z = c.size in
-    let e : suc (suc (k * 2)) ≡ left * 2 = omega arith in
-    let q : suc k ≡ left = omega arith in
-    let l₁ = length-set fs (k * 2) x in
+    let e : suc (suc (pair * 2)) ≡ left * 2 = omega arith in
+    let q : suc pair ≡ left = omega arith in
+    let l₁ = length-set fs (pair * 2) x in
     record {
       under = omega arith;
-      size = length-set (set fs (k * 2) x) (k * 2 + 1) y ∙ l₁ ∙ z;
-      says = ap (pairs_from k (a / 2) (b / 2)) (two fs (k * 2) x y (omega arith) ∙ (λ i. ex i ∷ ey i ∷ drop (e i) fs))
-          ∙ sym (pairs_suc k a b (drop (left * 2) fs))
+      size = length-set (set fs (pair * 2) x) (pair * 2 + 1) y ∙ l₁ ∙ z;
+      says = ap (λ (n : ℕ). pairs_from n (a / 2) (b / 2) (drop (n * 2) (set (set fs (pair * 2) x) (pair * 2 + 1) y))) (sym w)
+          ∙ ap (pairs_from pair (a / 2) (b / 2)) (two fs (pair * 2) x y (omega arith) ∙ (λ i. ex i ∷ ey i ∷ drop (e i) fs))
+          ∙ sym (pairs_suc pair a b (drop (left * 2) fs))
           ∙ ap (λ (n : ℕ). pairs_from n a b (drop (left * 2) fs)) q
           ∙ c.says;
     }

@@ -5,6 +5,8 @@ ghost use Rattle.std.specs.Prelude.{◌≡◌, ◌+◌, ◌*◌, ◌%◌, ◌<�
 ghost use Rattle.basics.specs.Choice.{bit, on};
 ghost use Rattle.rows.specs.Row.{plain_fuse, inverse_fuse, product_row, feedback, feedback_fuse, feedback_row};
 
+use std::array;
+
 // A product of the twenty-two variables: bit i tells whether variable i is picked, bit 32 + i whether it is picked plain.
 pub type Product = u64;
 
@@ -34,19 +36,19 @@ impl Row {
     }
 
     // The row of a product.
+    #[tactic(auto, using(crate::proofs::Filling::end), unfolding(crate::specs::Row::product_row))]
     pub fn of_product(product: Product) -> Self
         ensures { result.fuses ≡ product_row product }
     {
         let mut fuses = [1u8; 44];
         let mut a = product % 4294967296;
         let mut b = product / 4294967296;
-        let mut left: usize = 22;
-        while 0 < left {
-            left = left - 1;
-            fuses[left * 2] = plain_fuse(a, b);
-            fuses[left * 2 + 1] = inverse_fuse(a, b);
-            a = a / 2;
-            b = b / 2;
+        for i in 0..22 {
+            let pair = 21 - i;
+            fuses[pair * 2] = plain_fuse(a, b);
+            fuses[pair * 2 + 1] = inverse_fuse(a, b);
+            a /= 2;
+            b /= 2;
         }
         Row { fuses }
     }
@@ -57,13 +59,9 @@ impl Row {
         ensures { result.fuses ≡ feedback_row k registered s0 v }
     {
         let x = feedback_of(registered, s0, v);
-        let mut fuses = [1u8; 44];
-        let mut i: usize = 0;
-        while i < 44 {
-            fuses[i] = feedback_fuse(k, x, i);
-            i += 1;
+        Row {
+            fuses: array::from_fn(|c| feedback_fuse(k, x, c)),
         }
-        Row { fuses }
     }
 }
 
@@ -71,53 +69,33 @@ impl Row {
 fn plain_fuse(a: u64, b: u64) -> u8
     ensures { result ≡ plain_fuse (on (a % 2)) (on (b % 2)) }
 {
-    if a % 2 == 1 {
-        if b % 2 == 1 {
-            return 1;
-        }
-        return 0;
-    }
-    1
+    if a % 2 == 1 && b % 2 != 1 { 0 } else { 1 }
 }
 
 fn inverse_fuse(a: u64, b: u64) -> u8
     ensures { result ≡ inverse_fuse (on (a % 2)) (on (b % 2)) }
 {
-    if a % 2 == 1 {
-        if b % 2 == 1 {
-            return 0;
-        }
-        return 1;
-    }
-    1
+    if a % 2 == 1 && b % 2 == 1 { 0 } else { 1 }
 }
 
 // The signal that a cell feeds back where its pin shows v.
 fn feedback_of(registered: bool, s0: bool, v: bool) -> bool
     ensures { result ≡ feedback registered s0 v }
 {
-    if registered {
-        if s0 {
-            return !v;
-        }
-        if v {
-            return true;
-        }
-        return false;
-    }
-    v
+    if registered && s0 { !v } else { v }
 }
 
 // The fuse at column c.
+#[tactic(auto, unfolding(crate::specs::Row::feedback_fuse))]
 fn feedback_fuse(k: usize, x: bool, c: usize) -> u8
     requires { k < 10 }
     ensures { result ≡ feedback_fuse k x c }
 {
     if c == 4 * k + 2 {
-        return basics::byte_of(!x);
+        basics::byte_of(!x)
+    } else if c == 4 * k + 3 {
+        basics::byte_of(x)
+    } else {
+        1
     }
-    if c == 4 * k + 3 {
-        return basics::byte_of(x);
-    }
-    1
 }

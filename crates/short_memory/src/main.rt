@@ -2,166 +2,149 @@
 // the memory holds then: refusal 13 leaves the output as it was, and the working room is zeroed either way.
 #![tactic(auto)]
 
-use kinvlopt::{Compiled, Fitted, Graded};
-use std::io;
+ghost use Rattle.std.specs.Prelude.{ℕ, ◌≤◌};
+
+use kinvlopt::{Compiled, Fitted, Graded, Refusal};
 use std::io::Write;
+use std::{fmt, io};
 
-// Whether all bytes are b.
-fn all_are(s: &[u8], b: u8) -> bool {
-    let mut i = 0;
-    while i < s.len() {
-        if s[i] != b {
-            return false;
+// What a call answered.
+#[derive(Clone, Copy)]
+enum Told {
+    Bytes(usize),
+    Grade(Grade),
+    Refused { number: u8, place: usize },
+}
+
+#[derive(Clone, Copy)]
+enum Grade {
+    NoImplicant,
+    Implicant,
+    Prime,
+}
+
+impl From<Compiled> for Told {
+    fn from(compiled: Compiled) -> Told {
+        match compiled {
+            Compiled::File { len } => Told::Bytes(len),
+            Compiled::Refused { number, place } => Told::Refused { number, place },
         }
-        i += 1;
     }
-    true
 }
 
-fn put_lengths<W: Write>(to: &mut W, call: &str, out: usize, room: usize) -> io::Result<()> {
-    write!(to, "{call} {out} {room}: ")
+impl From<Fitted> for Told {
+    fn from(fitted: Fitted) -> Told {
+        match fitted {
+            Fitted::Lines { len } => Told::Bytes(len),
+            Fitted::Refused { number, place } => Told::Refused { number, place },
+        }
+    }
 }
 
-fn put_refusal<W: Write>(to: &mut W, number: u8, place: usize) -> io::Result<()> {
-    write!(to, "refused {number} {place}")
+impl From<Result<usize, Refusal>> for Told {
+    fn from(written: Result<usize, Refusal>) -> Told {
+        match written {
+            Ok(len) => Told::Bytes(len),
+            Err(refusal) => Told::Refused {
+                number: refusal.reason.number(),
+                place: refusal.place,
+            },
+        }
+    }
 }
 
-fn put_bytes<W: Write>(to: &mut W, len: usize) -> io::Result<()> {
-    write!(to, "{len} bytes")
+impl From<Graded> for Told {
+    fn from(graded: Graded) -> Told {
+        match graded {
+            Graded::NoImplicant => Told::Grade(Grade::NoImplicant),
+            Graded::Implicant => Told::Grade(Grade::Implicant),
+            Graded::Prime => Told::Grade(Grade::Prime),
+            Graded::Refused { number, place } => Told::Refused { number, place },
+        }
+    }
+}
+
+impl fmt::Display for Told {
+    fn fmt<W: fmt::Write>(&self, f: &mut fmt::Formatter<W>) -> fmt::Result {
+        match self {
+            Told::Bytes(len) => write!(f, "{len} bytes"),
+            Told::Grade(Grade::NoImplicant) => write!(f, "no implicant"),
+            Told::Grade(Grade::Implicant) => write!(f, "implicant"),
+            Told::Grade(Grade::Prime) => write!(f, "prime"),
+            Told::Refused { number, place } => write!(f, "refused {number} {place}"),
+        }
+    }
 }
 
 // What the memory holds after a call.
 fn put_memory<W: Write>(to: &mut W, out: &[u8], room: &[u8]) -> io::Result<()> {
-    if all_are(out, 7) {
+    if out.iter().all(|&b| b == 7) {
         to.write_all(b", output as it was")?;
     } else {
         to.write_all(b", output written")?;
     }
-    if all_are(room, 0) {
+    if room.iter().all(|&b| b == 0) {
         to.write_all(b", room zeroed\n")
     } else {
         to.write_all(b", room not zeroed\n")
     }
 }
 
-fn try_compile<W: Write>(
+// Makes a call that is lent so many bytes of output and of room.
+fn try_call<W: Write, F: Fn(&mut [u8], &mut [u8]) -> Told>(
     to: &mut W,
-    text: &[u8],
-    out: &mut [u8],
-    room: &mut [u8],
-) -> io::Result<()> {
-    put_lengths(to, "compile", out.len(), room.len())?;
-    match kinvlopt::compile(text, out, room) {
-        Compiled::File { len } => put_bytes(to, len)?,
-        Compiled::Refused { number, place } => put_refusal(to, number, place)?,
-    }
+    name: &str,
+    out_len: usize,
+    room_len: usize,
+    call: F,
+) -> io::Result<()>
+    requires callable { F.IsAlwaysCallable call }
+    requires out_fits { out_len ≤ 7154 }
+    requires room_fits { room_len ≤ 65536 }
+{
+    let mut out = [7u8; 7154];
+    let mut room = [7u8; 65536];
+    let out = &mut out[..out_len];
+    let room = &mut room[..room_len];
+    let told = call(out, room);
+    write!(to, "{name} {out_len} {room_len}: {told}")?;
     put_memory(to, out, room)
 }
 
-fn try_fit<W: Write>(to: &mut W, text: &[u8], out: &mut [u8], room: &mut [u8]) -> io::Result<()> {
-    put_lengths(to, "fit", out.len(), room.len())?;
-    match kinvlopt::fit(text, out, room) {
-        Fitted::Lines { len } => put_bytes(to, len)?,
-        Fitted::Refused { number, place } => put_refusal(to, number, place)?,
-    }
-    put_memory(to, out, room)
-}
-
-fn put_grade<W: Write>(to: &mut W, graded: Graded) -> io::Result<()> {
-    match graded {
-        Graded::NoImplicant => to.write_all(b"no implicant"),
-        Graded::Implicant => to.write_all(b"implicant"),
-        Graded::Prime => to.write_all(b"prime"),
-        Graded::Refused { number, place } => put_refusal(to, number, place),
-    }
-}
-
-fn try_ask<W: Write>(to: &mut W, text: &[u8], room: &mut [u8]) -> io::Result<()> {
-    put_lengths(to, "ask", 0, room.len())?;
-    let graded = kinvlopt::ask(text, 23, 1, room);
-    put_grade(to, graded)?;
-    put_memory(to, b"", room)
-}
-
-fn try_write<W: Write>(to: &mut W, map: &[u8], out: &mut [u8]) -> io::Result<()> {
-    put_lengths(to, "write", out.len(), 0)?;
-    match kinvlopt::write(map, out) {
-        Ok(len) => put_bytes(to, len)?,
-        Err(refusal) => put_refusal(to, refusal.reason.number(), refusal.place)?,
-    }
-    put_memory(to, out, b"")
-}
-
-fn compile_whole<W: Write>(to: &mut W, text: &[u8]) -> io::Result<()> {
-    let mut out = [7u8; 7154];
-    let mut room = [7u8; 65536];
-    try_compile(to, text, &mut out, &mut room)
-}
-
-fn compile_short_output<W: Write>(to: &mut W, text: &[u8]) -> io::Result<()> {
-    let mut out = [7u8; 7153];
-    let mut room = [7u8; 65536];
-    try_compile(to, text, &mut out, &mut room)
-}
-
-fn compile_short_room<W: Write>(to: &mut W, text: &[u8]) -> io::Result<()> {
-    let mut out = [7u8; 7154];
-    let mut room = [7u8; 65535];
-    try_compile(to, text, &mut out, &mut room)
-}
-
-fn fit_whole<W: Write>(to: &mut W, text: &[u8]) -> io::Result<()> {
-    let mut out = [7u8; 7154];
-    let mut room = [7u8; 65536];
-    try_fit(to, text, &mut out, &mut room)
-}
-
-fn fit_short_output<W: Write>(to: &mut W, text: &[u8]) -> io::Result<()> {
-    let mut out = [7u8; 7153];
-    let mut room = [7u8; 65536];
-    try_fit(to, text, &mut out, &mut room)
-}
-
-fn fit_short_room<W: Write>(to: &mut W, text: &[u8]) -> io::Result<()> {
-    let mut out = [7u8; 7154];
-    let mut room = [7u8; 65535];
-    try_fit(to, text, &mut out, &mut room)
-}
-
-fn ask_both<W: Write>(to: &mut W, text: &[u8]) -> io::Result<()> {
-    let mut room = [7u8; 65536];
-    try_ask(to, text, &mut room)?;
-    let mut short = [7u8; 65535];
-    try_ask(to, text, &mut short)
-}
-
-fn write_both<W: Write>(to: &mut W) -> io::Result<()> {
-    let map = [0u8; 5892];
-    let mut out = [7u8; 7154];
-    try_write(to, &map, &mut out)?;
-    let mut short = [7u8; 7153];
-    try_write(to, &map, &mut short)
+// Makes a call with enough output and room, and with a byte less of either.
+fn try_short<W: Write, F: Fn(&mut [u8], &mut [u8]) -> Told>(
+    to: &mut W,
+    name: &str,
+    call: F,
+) -> io::Result<()>
+    requires { F.IsAlwaysCallable call }
+{
+    try_call(to, name, 7154, 65536, &call)?;
+    try_call(to, name, 7153, 65536, &call)?;
+    try_call(to, name, 7154, 65535, &call)
 }
 
 // Everything with one text.
-fn all_of<W: Write>(to: &mut W, text: &[u8]) -> io::Result<()> {
-    compile_whole(to, text)?;
-    compile_short_output(to, text)?;
-    compile_short_room(to, text)?;
-    fit_whole(to, text)?;
-    fit_short_output(to, text)?;
-    fit_short_room(to, text)?;
-    ask_both(to, text)?;
-    write_both(to)
+fn try_all<W: Write>(to: &mut W, text: &[u8]) -> io::Result<()> {
+    try_short(to, "compile", |out, room| {
+        kinvlopt::compile(text, out, room).into()
+    })?;
+    try_short(to, "fit", |out, room| kinvlopt::fit(text, out, room).into())?;
+    let ask = |_: &mut [u8], room: &mut [u8]| kinvlopt::ask(text, 23, 1, room).into();
+    try_call(to, "ask", 0, 65536, &ask)?;
+    try_call(to, "ask", 0, 65535, &ask)?;
+    let write = |out: &mut [u8], _: &mut [u8]| kinvlopt::write(&[0; 5892], out).into();
+    try_call(to, "write", 7154, 0, &write)?;
+    try_call(to, "write", 7153, 0, &write)
 }
 
 fn main(rt: HostRuntime) -> io::Result<()> {
     let mut to = rt.stdout();
-    all_of(
+    try_all(
         &mut to,
         b"MODULE T; IN a: BIT; OUT y: BIT; BEGIN a::2; y::23; y := REG(y - a) END T.",
     )?;
-    all_of(
+    try_all(
         &mut to,
         b"MODULE T; IN a: BIT; OUT y: BIT; BEGIN a::2; y::23; y := REG(y - b) END T.",
     )

@@ -1,8 +1,8 @@
-use Rattle.std.proofs.Common.{◌-◌, ◌≤◌}
+use Rattle.std.proofs.Common.{◌-◌, ◌≤◌, ◌^◌}
 use Rattle.answers.proofs.whole_length.Given as goal
 
 abbrev pub invariant-loop-total : goal.invariant-loop-total
 invariant-loop-total g l = l.had ≤ l.total
 
 abbrev pub decreases-loop-total : goal.decreases-loop-total
-decreases-loop-total g l = 4611686018427387904 - l.total
+decreases-loop-total g l = 2 ^ 62 - l.total

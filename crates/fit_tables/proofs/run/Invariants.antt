@@ -1,5 +1,5 @@
-use Rattle.std.proofs.Common.{◌-◌, length}
+use Rattle.std.proofs.Common.{length}
 use Rattle.fit_tables.proofs.run.Given as goal
 
-abbrev pub decreases-loop-i : goal.decreases-loop-i
-decreases-loop-i g l = length l.text - l.i
+abbrev pub decreases-loop-rest : goal.decreases-loop-rest
+decreases-loop-rest g l = length l.rest

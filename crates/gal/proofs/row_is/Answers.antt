@@ -1,20 +1,14 @@
--- `gal::row_is` meets its contract.
-use mathlib.Core.Path.{sym}
-use borrow.Author.Tests.{eq-eqb, ne_eqb}
-use Rattle.basics.proofs.Folds.{every_start, every_more, every_end, all_miss}
-use Rattle.gal.specs.Map.{row_is}
+use mathlib.Core.Path.{◌∙◌}
+use native.Mathlib.Omega.{arith}
+use borrow.Author.Rules.{rules}
+use borrow.Author.Tests.{tests}
+use lib.Dec.{eqb}
+use Rattle.std.proofs.lemmas.Iterator.{YieldsList-from_slice}
+use Rattle.std.proofs.lemmas.Iterator.Search.{all_from_yields_List}
+use Rattle.gal.proofs.Slices.{row_all}
 use Rattle.gal.proofs.row_is.Goals as goal
 
-pub loop-i-init : goal.loop-i-init
-loop-i-init c = every_start _ _
-
-pub returns-then-map-r : goal.returns-then-map-r
-unfolding row_is
-returns-then-map-r c = sym (all_miss _ _ _ c.loop-i-test.true (ne_eqb _ _ c.if-map-r.true))
-
-pub loop-i-preserved : goal.loop-i-preserved
-loop-i-preserved c = every_more _ _ _ c.loop-i-test.true c.loop-i.invariant (eq-eqb _ _ c.if-map-r.false)
-
 pub returns : goal.returns
-unfolding row_is
-returns c = sym (every_end _ _ _ c.loop-i-test.false c.loop-i.invariant)
+returns c =
+    all_from_yields_List (λ x. eqb x c.args.v) _ _ _ c.all.ensures.ran (YieldsList-from_slice _ c.iter.ensures.rest) (λ x b q k. search (rules, tests))
+    ∙ row_all c.args.map.now c.args.r c.args.v _ c.requires.map_len c.requires.r_bound (omega arith)

@@ -1,14 +1,10 @@
-use mathlib.Core.Path.{refl}
-use Rattle.basics.proofs.Folds.{listing_start, listing_more, listing_end}
-use Rattle.gallines.specs.Lines.{pins_of}
+use borrow.Author.Rules.{rules}
+use borrow.Author.Tests.{tests}
+use Prim.Native.Nat.{◌+◌}
+use Rattle.gallines.specs.Lines.{given, pins_of}
+use Rattle.rows.proofs.Arrays.{array_is}
 use Rattle.gallines.proofs.pins_of.Goals as goal
-
-pub loop-i-init : goal.loop-i-init
-loop-i-init c = listing_start _ _ _ refl
-
-pub loop-i-preserved : goal.loop-i-preserved
-loop-i-preserved c = listing_more _ _ _ _ _ c.loop-i-test.true c.loop-i.invariant c.given_at.ensures
 
 pub returns : goal.returns
 unfolding pins_of
-returns c = listing_end _ _ _ _ c.loop-i-test.false c.loop-i.invariant
+returns c = array_is (λ i. given c.args.line.now (i + 11)) _ (λ x y q k. search (rules, tests)) _ 24 c.from_fn.ensures.items

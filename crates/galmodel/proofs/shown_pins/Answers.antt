@@ -1,19 +1,11 @@
--- `galmodel::shown_pins` meets its contract.
-use mathlib.Core.Path.{refl, ap, ◌∙◌}
+use borrow.Author.Rules.{rules}
+use borrow.Author.Tests.{tests}
+use Prim.Native.Nat.{◌+◌}
 use Rattle.basics.specs.Choice.{bit}
-use Rattle.basics.proofs.Folds.{listing_start, listing_more, listing_end}
-use Rattle.gal.specs.Show.{shown_pins}
+use Rattle.gal.specs.Show.{shown_at, shown_pins}
+use Rattle.rows.proofs.Arrays.{array_is}
 use Rattle.galmodel.proofs.shown_pins.Goals as goal
-
-pub loop-i-init : goal.loop-i-init
-loop-i-init c = listing_start _ _ _ refl
-
-pub shown_pin-f-requires : goal.shown_pin-f-requires
-shown_pin-f-requires c = c.requires
-
-pub loop-i-preserved : goal.loop-i-preserved
-loop-i-preserved c = listing_more _ _ _ _ _ c.loop-i-test.true c.loop-i.invariant (c.byte_of.ensures ∙ ap bit c.shown_pin-f.ensures)
 
 pub returns : goal.returns
 unfolding shown_pins
-returns c = listing_end _ _ _ _ c.loop-i-test.false c.loop-i.invariant
+returns c = array_is (λ i. bit (shown_at c.args.map.now (i + 1))) _ (λ x y q k. search (rules, tests)) _ 24 c.from_fn.ensures.items

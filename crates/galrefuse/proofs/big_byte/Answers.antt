@@ -1,17 +1,16 @@
--- `galrefuse::big_byte` meets its contract.
-use mathlib.Core.Path.{sym}
-use borrow.Author.Tests.{lt-ltb, le-ltb}
-use Rattle.basics.proofs.Folds.{none_start, none_more, none_end, any_hit}
+use mathlib.Core.Path.{ap, ◌∙◌}
+use borrow.Author.Rules.{rules}
+use borrow.Author.Tests.{tests}
+use lib.Dec.{ltb}
+use lib.ListN.{get_or}
+use Rattle.std.proofs.lemmas.Iterator.{YieldsList-from_slice}
+use Rattle.std.proofs.lemmas.Iterator.Search.{any_from_yields_List}
+use Rattle.basics.specs.Below.{any_below}
+use Rattle.gal.proofs.Slices.{any_by_index}
 use Rattle.galrefuse.proofs.big_byte.Goals as goal
 
-pub loop-i-init : goal.loop-i-init
-loop-i-init c = none_start _ _
-
-pub returns-then-map-i-gt1 : goal.returns-then-map-i-gt1
-returns-then-map-i-gt1 c = sym (any_hit _ _ _ c.loop-i-test.true (lt-ltb 1 _ c.if-map-i-gt1.true))
-
-pub loop-i-preserved : goal.loop-i-preserved
-loop-i-preserved c = none_more _ _ _ c.loop-i-test.true c.loop-i.invariant (le-ltb 1 _ c.if-map-i-gt1.false)
-
 pub returns : goal.returns
-returns c = sym (none_end _ _ _ c.loop-i-test.false c.loop-i.invariant)
+returns c =
+    any_from_yields_List (ltb 1) _ _ _ c.any.ensures.ran (YieldsList-from_slice c.args.map.now c.iter.ensures.rest) (λ x b q k. search (rules, tests))
+    ∙ any_by_index (ltb 1) c.args.map.now
+    ∙ ap (any_below (λ i. ltb 1 (get_or c.args.map.now i 0))) c.requires

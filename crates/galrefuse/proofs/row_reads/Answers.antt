@@ -1,19 +1,15 @@
--- `galrefuse::row_reads` meets its contract.
-use mathlib.Core.Path.{sym, ◌∙◌}
-use Rattle.basics.proofs.Folds.{none_start, none_more, none_end, any_hit}
+use mathlib.Core.Bool.{◌&&◌, ◌||◌}
+use Prim.Native.Nat.{◌+◌, ◌*◌}
+use borrow.Author.Rules.{rules}
+use borrow.Author.Tests.{tests}
+use lib.ListN.{get_or}
+use Rattle.basics.specs.Choice.{on}
+use Rattle.rows.specs.Row.{joins}
+use Rattle.gal.specs.Map.{fuse}
 use Rattle.gal.specs.Refuse.{reads}
+use Rattle.gal.proofs.Slices.{any_is}
 use Rattle.galrefuse.proofs.row_reads.Goals as goal
-
-pub loop-i-init : goal.loop-i-init
-loop-i-init c = none_start _ _
-
-pub returns-then-pair_reads : goal.returns-then-pair_reads
-unfolding reads
-returns-then-pair_reads c = sym (any_hit _ _ _ c.loop-i-test.true (sym c.pair_reads.ensures ∙ c.if-pair_reads.true))
-
-pub loop-i-preserved : goal.loop-i-preserved
-loop-i-preserved c = none_more _ _ _ c.loop-i-test.true c.loop-i.invariant (sym c.pair_reads.ensures ∙ c.if-pair_reads.false)
 
 pub returns : goal.returns
 unfolding reads
-returns c = sym (none_end _ _ _ c.loop-i-test.false c.loop-i.invariant)
+returns c = any_is (λ p. on (get_or c.args.bad.now p 0) && (joins (fuse c.args.map.now c.args.r (p * 2)) || joins (fuse c.args.map.now c.args.r (p * 2 + 1)))) 22 _ _ _ c.any.ensures.ran (λ x b q k. search (rules, tests))

@@ -1,28 +1,12 @@
--- `galrefuse::wrong_bits` meets its contract.
-use mathlib.Core.Path.{sym, ap, ◌∙◌}
-use mathlib.Core.Bool.{Bool}
-use native.Mathlib.Omega.{arith}
+use Prim.Native.Nat.{◌-◌}
+use borrow.Author.Rules.{rules}
+use borrow.Author.Tests.{tests}
 use lib.ListN.{get_or}
-use Rattle.basics.proofs.Folds.{none_start, none_more, none_end, any_hit}
+use Rattle.gal.specs.Map.{registered}
 use Rattle.gal.specs.Refuse.{wrong, wrong_bits}
+use Rattle.gal.proofs.Slices.{any_is}
 use Rattle.galrefuse.proofs.wrong_bits.Goals as goal
-
-pub loop-i-init : goal.loop-i-init
-loop-i-init c = none_start _ _
-
-pub is_registered-own-requires : goal.is_registered-own-requires
-is_registered-own-requires c = record {
-  map_len = c.requires;
-  k_bound = omega arith;
-}
-
-pub returns-then-wrong_value : goal.returns-then-wrong_value
-unfolding wrong_bits
-returns-then-wrong_value c = sym (any_hit _ _ _ c.loop-i-test.true (ap (λ (o : Bool). wrong o (get_or c.args.bits.now c.loop-i.i 0)) (sym c.is_registered-own.ensures) ∙ sym c.wrong_value.ensures ∙ c.if-wrong_value.true))
-
-pub loop-i-preserved : goal.loop-i-preserved
-loop-i-preserved c = none_more _ _ _ c.loop-i-test.true c.loop-i.invariant (ap (λ (o : Bool). wrong o (get_or c.args.bits.now c.loop-i.i 0)) (sym c.is_registered-own.ensures) ∙ sym c.wrong_value.ensures ∙ c.if-wrong_value.false)
 
 pub returns : goal.returns
 unfolding wrong_bits
-returns c = sym (none_end _ _ _ c.loop-i-test.false c.loop-i.invariant)
+returns c = any_is (λ b. wrong (registered c.args.map.now (9 - b)) (get_or c.args.bits.now b 0)) 10 _ _ _ c.any.ensures.ran (λ x b q k. search (rules, tests))

@@ -1,8 +1,0 @@
-use borrow.Author.Tests.{eq-eqb, ne_eqb}
-use Rattle.gallines.proofs.char_of.Goals as goal
-
-pub returns-then-v-eq1 : goal.returns-then-v-eq1
-returns-then-v-eq1 c = simp (eq-eqb _ _ c.if-v-eq1.true)
-
-pub returns : goal.returns
-returns c = simp (ne_eqb _ _ c.if-v-eq1.false)
