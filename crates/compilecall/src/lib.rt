@@ -12,7 +12,6 @@ ghost use Rattle.texts.specs.Stages.{unless, whole_of};
 ghost use Rattle.texts.specs.Calls.{filed, Does};
 ghost use Rattle.compilecall.specs.Compiling.{compiled_as, Compiles};
 
-use fusewrite::Written;
 use lola::Told;
 use outmap::Sixth;
 
@@ -31,8 +30,11 @@ fn put_file(map: &[u8], out: &mut [u8]) -> Compiled
     ensures out_after { out.new ≡ left (gives (file_of map.now)) out.old }
 {
     match fusewrite::write(map, out) {
-        Written::File { len } => Compiled::File { len },
-        Written::Refused { number, place } => Compiled::Refused { number, place },
+        Ok(len) => Compiled::File { len },
+        Err(r) => Compiled::Refused {
+            number: r.reason.number(),
+            place: r.place,
+        },
     }
 }
 
