@@ -4,8 +4,7 @@
 
 ghost use Rattle.std.specs.Prelude.{ℕ, ◌≤◌};
 
-use basics::refusal::Refusal;
-use kinvlopt::{Compiled, Fitted, Graded};
+use kinvlopt::{Compiled, Fitted, Graded, Refusal};
 use std::io::Write;
 use std::{fmt, io};
 

@@ -68,11 +68,7 @@ fn is_flipped(parts: &[u32], rows: bool, p: usize) -> bool
 fn flips(parts: &[u32], rows: bool) -> [u8; 24]
     ensures { result ≡ listed (λ p. bit (flip_at (elements_of parts.now) rows p)) 24 }
 {
-    let mut a = [0u8; 24];
-    for p in 0..24 {
-        a[p] = basics::byte_of(is_flipped(parts, rows, p));
-    }
-    a
+    circuit::bits(|p| is_flipped(parts, rows, p))
 }
 
 // The pins where the variables are the bits of k.
@@ -101,11 +97,7 @@ fn is_known(parts: &[u32], pins: &[u8], i: usize) -> bool
 fn known_values(parts: &[u32], pins: &[u8]) -> [u8; 64]
     ensures { result ≡ listed (λ i. bit (known (elements_of parts.now) (env_of pins.now) i)) 64 }
 {
-    let mut a = [0u8; 64];
-    for i in 0..64 {
-        a[i] = basics::byte_of(is_known(parts, pins, i));
-    }
-    a
+    circuit::bits(|i| is_known(parts, pins, i))
 }
 
 // The values of all elements.
