@@ -1,7 +1,7 @@
 use Rattle.tables.proofs.Filling.{filling_start, filling_more, filling_end}
 use Rattle.basics.specs.Choice.{bit}
 use mathlib.Core.Path.{ap, ◌∙◌}
-use Rattle.tables.proofs.fill.Goals as goal
+use Rattle.tables.proofs.Function.fill.Goals as goal
 
 pub loop-k-init : goal.loop-k-init
 loop-k-init c = filling_start _ _ _
