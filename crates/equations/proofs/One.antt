@@ -5,6 +5,11 @@ use mathlib.Core.List.{List}
 use Prim.Native.Nat.{ℕ}
 use native.Mathlib.Omega.{arith}
 use lib.IntN.{ℤ, pos, negsuc}
+use Rattle.std.specs.Prelude.{Result, Ok, Err}
+use Rattle.basics.specs.Refusal.{number_of}
+use Rattle.basics.specs.declared.refusal.Reason.{Reason}
+use Rattle.basics.specs.declared.refusal.Refusal.{Refusal}
+use Rattle.basics.proofs.Refusals.{number_of_once}
 use Rattle.words.specs.declared.Cursor.{Cursor}
 use Rattle.integers.specs.Integers.{num}
 use Rattle.integers.specs.declared.Num.{Num}
@@ -12,7 +17,6 @@ use Rattle.integers.specs.declared.Num.TheVariants.{Up, Down}
 use Rattle.grammar.specs.Outcome.{ok, no}
 use Rattle.judging.specs.Reading.{State, seen}
 use Rattle.judging.specs.declared.Read.{Read}
-use Rattle.judging.specs.declared.Read.TheVariants.{Value, Refused}
 
 same_cursor : (c d : Cursor) → c.at ≡ d.at → c ≡ d
 same_cursor c d p = λ i. record { at = p i }
@@ -29,20 +33,16 @@ num_one (Down m) (Down n) q = let e : m ≡ n = cc in ap Down e
 apart : (v : ℤ) (a n p : ℕ) (x y : State) → ok v a x ≡ no n p y → ⊥
 apart v a n p x y q = let z : ◌≡◌ {A = ℕ} 0 1 = cc in omega arith
 
-pub seen_one : (a b : Read) (l m : List ℕ) → seen a l ≡ seen b m → (a ≡ b) × (l ≡ m)
-seen_one (Value v n c) (Value w k d) l m q =
-    let p : num v ≡ num w = cc in
-    let r : c.at ≡ d.at = cc in
-    let x : ◌≡◌ {A = State} (l, n) (m, k) = cc in
-    let e : n ≡ k = ap (λ (y : State). y.1) x in
-    let f : l ≡ m = ap (λ (y : State). y.0) x in
-    (ap₂ (λ (u : Num) (o : Cursor). Value u n o) (num_one v w p) (same_cursor c d r) ∙ ap (λ (i : ℕ). Value w i d) e, f)
-seen_one (Value v n c) (Refused k p j) l m q = absurd (apart (num v) c.at k p (l, n) (m, j) q)
-seen_one (Refused k p j) (Value v n c) l m q = absurd (apart (num v) c.at k p (m, n) (l, j) (sym q))
-seen_one (Refused k p j) (Refused h r i) l m q =
-    let e : k ≡ h = cc in
-    let f : p ≡ r = cc in
-    let x : ◌≡◌ {A = State} (l, j) (m, i) = cc in
-    let g : j ≡ i = ap (λ (y : State). y.1) x in
-    let o : l ≡ m = ap (λ (y : State). y.0) x in
-    (ap₂ (λ (u v : ℕ). Refused u v j) e f ∙ ap (λ (v : ℕ). Refused h r v) g, o)
+pub seen_one : (a b : Result Read Refusal) (x y : State) → seen a x ≡ seen b y → (a ≡ b) × (x ≡ y)
+seen_one (Ok r) (Ok q) x y e =
+    let v : num r.value ≡ num q.value = cc in
+    let c : r.next.at ≡ q.next.at = cc in
+    let s : x ≡ y = cc in
+    (ap₂ (λ (u : Num) (o : Cursor). Ok (record { value = u; next = o })) (num_one r.value q.value v) (same_cursor r.next q.next c), s)
+seen_one (Ok r) (Err q) x y e = absurd (apart (num r.value) r.next.at (number_of q.reason) q.place x y e)
+seen_one (Err r) (Ok q) x y e = absurd (apart (num q.value) q.next.at (number_of r.reason) r.place y x (sym e))
+seen_one (Err r) (Err q) x y e =
+    let n : number_of r.reason ≡ number_of q.reason = cc in
+    let p : r.place ≡ q.place = cc in
+    let s : x ≡ y = cc in
+    (ap₂ (λ (k : Reason) (m : ℕ). Err (record { reason = k; place = m })) (number_of_once r.reason q.reason n) p, s)
