@@ -3,12 +3,12 @@
 use mathlib.Core.Path.{◌≡◌, refl, sym, ap, ap₂, ◌∙◌, subst}
 use mathlib.Core.Logic.{⊎_elim, ◌≢◌}
 use mathlib.Core.Bool.{Bool, true, false, cond, not, ◌||◌}
-use mathlib.Core.List.{List, ◌∷◌}
+use mathlib.Core.List.{List, [], ◌∷◌}
 use Prim.Native.Nat.{ℕ, zero, suc, ◌+◌, ◌-◌, ◌*◌, ◌/◌, ◌%◌, ◌≤◌, ◌<◌}
 use native.Mathlib.Omega.{arith}
-use borrow.Author.Tests.{lt-ltb, le-ltb, le-leb}
+use borrow.Author.Tests.{lt-ltb, le-ltb, le-leb, eq-eqb, ne_eqb}
 use lib.Dec.{eqb, leb, ltb, eqb→eq, leb→le}
-use lib.ListN.{length, get_or, set}
+use lib.ListN.{length, get_or, set, replicate}
 use Rattle.std.specs.List.{filter, range_with_len}
 use Rattle.basics.specs.Choice.{bit, pick}
 use Rattle.basics.specs.Below.{all_below, tally}
@@ -17,7 +17,8 @@ use Rattle.basics.proofs.Folds.{all_at, tally_le, Listing, listing_more, listing
 use Rattle.basics.proofs.Store.{below_or_not}
 use Rattle.device.proofs.Rule.{products_few}
 use Rattle.device.specs.Device.{enable_of, products_of}
-use Rattle.cells.specs.Map.{cell_at, row_at, row_fuse, switch_fuse, fuse_at, map_of, Begun, Written}
+use Rattle.rows.specs.Row.{product_row}
+use Rattle.cells.specs.Map.{used, cell_row, cell_at, row_at, row_fuse, switch_fuse, fuse_at, map_of, Begun, Written}
 
 -- ---- the cell of a row
 
@@ -161,3 +162,20 @@ pub last_end : (all : List (List ℕ)) (counts kinds s0s m₀ m : List ℕ) (i :
 unfolding map_of
 last_end all counts kinds s0s m₀ m i b h c =
     listing_end (last_fuse kinds s0s m₀) 5892 m i h c ∙ listed_same (last_fuse kinds s0s m₀) (fuse_at all counts kinds s0s) 5892 (λ j l. last_is all counts kinds s0s m₀ b j)
+
+-- ---- the enable row of a cell in use is open
+
+module _ (all : List (List ℕ)) (counts kinds : List ℕ) (r : ℕ) (fs : List ℕ) where
+  row-cell : (r ≡ 0 → ⊥) → (r ≡ 131 → ⊥) → (k a : ℕ) → k ≡ cell_at r → a ≡ r - enable_of k → cell_row (used kinds k) (get_or counts k 0) (get_or all k []) a ≡ row_at all counts kinds r
+  unfolding row_at
+  row-cell n l k a ek ea =
+      ap (cell_row (used kinds k) (get_or counts k 0) (get_or all k [])) ea
+      ∙ ap (λ (j : ℕ). cell_row (used kinds j) (get_or counts j 0) (get_or all j []) (r - enable_of j)) ek
+      ∙ ap₂ (λ (a b : Bool). pick (a || b) (replicate 44 0) (cell_row (used kinds (cell_at r)) (get_or counts (cell_at r) 0) (get_or all (cell_at r) []) (r - enable_of (cell_at r)))) (sym (ne_eqb r 0 n)) (sym (ne_eqb r 131 l))
+
+  pub row_open : (r ≡ 0 → ⊥) → (r ≡ 131 → ⊥) → (k a : ℕ) → k ≡ cell_at r → (get_or kinds k 0 ≡ 0 → ⊥) → a ≡ r - enable_of k → a ≡ 0 → fs ≡ replicate 44 1 → fs ≡ row_at all counts kinds r
+  unfolding cell_row
+  row_open n l k a ek u ea h e =
+      e
+      ∙ ap₂ (λ (b d : Bool). pick (not (not b)) (replicate 44 0) (pick d (replicate 44 1) (pick (leb a (get_or counts k 0)) (product_row (get_or (get_or all k []) (a - 1) 0)) (replicate 44 0)))) (sym (ne_eqb (get_or kinds k 0) 0 u)) (sym (eq-eqb a 0 h))
+      ∙ row-cell n l k a ek ea

@@ -13,7 +13,6 @@ ghost use Rattle.texts.specs.Calls.{filed, Does};
 ghost use Rattle.compilecall.specs.Compiling.{compiled_as, Compiles};
 
 use lola::Told;
-use outmap::Sixth;
 
 // The file's length, or a refusal.
 #[derive(Clone, Copy)]
@@ -48,8 +47,11 @@ fn compile_parts(parts: &[u32], out: &mut [u8], room: &mut [u8]) -> Compiled
     let mut map = [0u8; 5892];
     let mut facts = [0u32; 20];
     match outmap::map_outputs(parts, room, &mut map, &mut facts) {
-        Sixth::Fine => put_file(&map, out),
-        Sixth::Refused { number, place } => Compiled::Refused { number, place },
+        Ok(()) => put_file(&map, out),
+        Err(refusal) => Compiled::Refused {
+            number: refusal.reason.number(),
+            place: refusal.place,
+        },
     }
 }
 

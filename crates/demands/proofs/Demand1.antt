@@ -18,7 +18,7 @@ use Rattle.compilecall.specs.Compiling.{compiled_as, Compiles}
 use Rattle.fitcall.specs.declared.Fitted.{Fitted}
 use Rattle.fitcall.specs.declared.Fitted.TheVariants.{Lines, Refused as NotLined}
 use Rattle.fitcall.specs.Fitting.{fitted_of, fitted_as, Fits}
-use Rattle.question.specs.declared.Asked.TheVariants.{Refused as Refuses}
+use Rattle.question.specs.Question.Asked.{Refused as Refuses}
 use Rattle.askcall.specs.declared.Graded.TheVariants.{Refused as NotGraded}
 use Rattle.askcall.specs.Asking.{graded_of, Asks}
 use Rattle.fuseread.specs.Reading.{read_into, reading_of, Reads}

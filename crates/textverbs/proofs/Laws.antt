@@ -23,7 +23,7 @@ use Rattle.compilecall.specs.Compiling.{compiled_as, Compiles}
 use Rattle.fitcall.specs.declared.Fitted.{Fitted}
 use Rattle.fitcall.specs.declared.Fitted.TheVariants.{Lines, Refused as Misfits}
 use Rattle.fitcall.specs.Fitting.{lined, fitted_as, Fits}
-use Rattle.question.specs.declared.Asked.TheVariants.{Refused as Refuses}
+use Rattle.question.specs.Question.Asked.{Refused as Refuses}
 use Rattle.askcall.specs.declared.Graded.{Graded}
 use Rattle.askcall.specs.Asking.{grade_of, questioned, graded_of, Asks}
 use Rattle.verbs.proofs.Files.{bytes_printed, refusal_printed}
