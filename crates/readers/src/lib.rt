@@ -1,920 +1,323 @@
-// Expressions, read where they stand in the text, for a sort: 0 only to be checked, 1 for a number, 2 for a signal, 3 for a signal that is not
-// counted. Readers of expression, term, factor and index call one another over what is left of the text. Each takes a cursor and hands back the
-// value with the next cursor, or the refusal with its place. Nesting is bounded by the levels left.
+// Expressions, read where they stand in the text, for a sort. Readers of expression, term, factor and index call one another over what is left of the
+// text. Each takes a cursor and hands back the value with the next cursor, or the refusal with its place. Nesting is bounded by the levels left.
 #![tactic(auto)]
 
 ghost use Rattle.std.specs.Prelude.{◌≡◌, true, false};
+ghost use Rattle.words.specs.Kinds.{code};
 ghost use Rattle.integers.specs.Integers.{num};
+ghost use Rattle.judging.specs.Judging.{sort_of};
 ghost use Rattle.judging.specs.Reading.{seen, seen_step};
-ghost use Rattle.readers.specs.Readers.{inner_of, part_of, bracket_of, index_of, third_of, second_of, mux_of, rest_of, reg_of, inverted_of, factor_of, term_of, expression_of, product_turn_of, products_of, sum_turn_of, sums_of};
+ghost use Rattle.readers.specs.Readers.{inner_of, part_of, bracket_of, index_of, mux_of, reg_of, inverted_of, factor_of, expression_of};
+ghost use Rattle.readers.specs.Levels.{among, operand_of, turn_of, chain_of, level_of};
 
-use integers::Num;
-use judging::{Opened, Read, Step};
-use words::{Cursor, Taken};
+use basics::refusal::{Reason, Refusal};
+use judging::{Read, Scope, Sort, Step};
+use words::{Cursor, Kind};
+
+// The two levels of operators: sums have terms between their operators, products have factors.
+#[derive(Clone, Copy, Debug, PartialEq, Eq)]
+pub enum Level {
+    Sum,
+    Product,
+}
+
+// Whether a word is an operator of a level.
+fn is_operator(level: Level, kind: Kind) -> bool
+    ensures { result ≡ among level (code kind) }
+{
+    match level {
+        Level::Sum => judging::is_sum(kind),
+        Level::Product => judging::is_product(kind),
+    }
+}
 
 // An expression in what opens at a place: one level fewer is left.
 #[cycle(reading)]
 pub fn inner(
-    text: &[u8],
-    names: &[u16],
+    scope: Scope,
     room: &mut [u32],
-    count: usize,
-    sort: u8,
+    count: &mut usize,
+    sort: Sort,
     place: usize,
     from: Cursor,
     depth: usize,
-) -> Read
-    ensures { seen result room.new ≡ inner_of text.now names.now depth false sort place from.at (room.old, count) }
+) -> Result<Read, Refusal>
+    ensures { seen result (room.new, count.new) ≡ inner_of scope.entry.text.now scope.entry.names.now depth false (sort_of sort) place from.at (room.old, count.old) }
 {
     if depth == 0 {
-        return Read::Refused {
-            number: 6,
-            place,
-            count,
-        };
+        return Err(Refusal::new(Reason::Limit, place));
     }
-    expression(text, names, room, count, sort, from, depth - 1)
-}
-
-// A factor behind a ~ at a place.
-#[cycle(reading)]
-fn negated(
-    text: &[u8],
-    names: &[u16],
-    room: &mut [u32],
-    count: usize,
-    sort: u8,
-    place: usize,
-    from: Cursor,
-    depth: usize,
-) -> Read
-    ensures { seen result room.new ≡ inner_of text.now names.now depth true sort place from.at (room.old, count) }
-{
-    if depth == 0 {
-        return Read::Refused {
-            number: 6,
-            place,
-            count,
-        };
-    }
-    factor(text, names, room, count, sort, from, depth - 1)
+    expression(scope, room, count, sort, from, depth - 1)
 }
 
 // An expression in what opens at a place, and the word of a kind.
 #[cycle(reading)]
+#[tactic(auto, using(std::proofs::lemmas::Grind::common_steps, words::proofs::Codes::code_other), unfolding(grammar::specs::Grammar::part, grammar::specs::Grammar::closed))]
 fn part(
-    text: &[u8],
-    names: &[u16],
+    scope: Scope,
     room: &mut [u32],
-    count: usize,
-    sort: u8,
+    count: &mut usize,
+    sort: Sort,
     place: usize,
-    kind: u8,
+    kind: Kind,
     from: Cursor,
     depth: usize,
-) -> Read
-    ensures { seen result room.new ≡ part_of text.now names.now depth sort place kind from.at (room.old, count) }
+) -> Result<Read, Refusal>
+    ensures { seen result (room.new, count.new) ≡ part_of scope.entry.text.now scope.entry.names.now depth (sort_of sort) place (code kind) from.at (room.old, count.old) }
 {
-    match inner(text, names, room, count, sort, place, from, depth) {
-        Read::Value {
-            value,
-            count: c,
-            next,
-        } => match next.next(text) {
-            Taken::Word {
-                kind: k,
-                start,
-                value: _,
-                next: past,
-            } => {
-                if k == kind {
-                    return Read::Value {
-                        value,
-                        count: c,
-                        next: past,
-                    };
-                }
-                Read::Refused {
-                    number: 2,
-                    place: start,
-                    count: c,
-                }
-            }
-            Taken::Refused { number, place: p } => Read::Refused {
-                number,
-                place: p,
-                count: c,
-            },
-        },
-        Read::Refused {
-            number,
-            place: p,
-            count: c,
-        } => Read::Refused {
-            number,
-            place: p,
-            count: c,
-        },
+    let read = inner(scope, room, count, sort, place, from, depth)?;
+    let word = read.next.next(scope.text)?;
+    if word.kind != kind {
+        return Err(Refusal::new(Reason::Grammar, word.start));
     }
+    Ok(Read {
+        next: word.next,
+        ..read
+    })
 }
 
 // An index in brackets.
 #[cycle(reading)]
+#[tactic(auto, using(std::proofs::lemmas::Grind::common_steps), unfolding(grammar::specs::Grammar::bracketed))]
 fn bracket(
-    text: &[u8],
-    names: &[u16],
+    scope: Scope,
     room: &mut [u32],
-    count: usize,
-    sort: u8,
+    count: &mut usize,
+    sort: Sort,
     start: usize,
     end: usize,
     place: usize,
     from: Cursor,
     depth: usize,
-) -> Read
-    ensures { seen result room.new ≡ bracket_of text.now names.now depth sort start end place from.at (room.old, count) }
+) -> Result<Read, Refusal>
+    ensures { seen result (room.new, count.new) ≡ bracket_of scope.entry.text.now scope.entry.names.now depth (sort_of sort) start end place from.at (room.old, count.old) }
 {
-    match judging::open(text, names, sort, start, end, place) {
-        Opened::Base { first, size } => match part(
-            text,
-            names,
-            room,
-            count,
-            judging::index_sort(sort),
-            place,
-            93,
-            from,
-            depth,
-        ) {
-            Read::Value {
-                value,
-                count: c,
-                next,
-            } => judging::put(
-                room,
-                c,
-                judging::element(sort, start, place, first, size, value),
-                start,
-                next,
-            ),
-            Read::Refused {
-                number,
-                place: p,
-                count: c,
-            } => Read::Refused {
-                number,
-                place: p,
-                count: c,
-            },
-        },
-        Opened::Bad { number, place: p } => Read::Refused {
-            number,
-            place: p,
-            count,
-        },
-    }
+    let base = scope.open(sort, start, end, place)?;
+    let index = part(scope, room, count, sort.of_index(), place, Kind::CloseSquare, from, depth)?;
+    let verdict = judging::element(sort, start, place, base, index.value)?;
+    judging::put(room, count, verdict, start, index.next)
 }
 
 // Past a name: an index, or nothing.
 #[cycle(reading)]
+#[tactic(auto, using(std::proofs::lemmas::Grind::common_steps), unfolding(grammar::specs::Grammar::named))]
 pub fn index(
-    text: &[u8],
-    names: &[u16],
+    scope: Scope,
     room: &mut [u32],
-    count: usize,
-    sort: u8,
+    count: &mut usize,
+    sort: Sort,
     start: usize,
     end: Cursor,
     depth: usize,
-) -> Read
-    ensures { seen result room.new ≡ index_of text.now names.now depth sort start end.at (room.old, count) }
+) -> Result<Read, Refusal>
+    ensures { seen result (room.new, count.new) ≡ index_of scope.entry.text.now scope.entry.names.now depth (sort_of sort) start end.at (room.old, count.old) }
 {
-    match end.next(text) {
-        Taken::Word {
-            kind,
-            start: at,
-            value: _,
-            next,
-        } => {
-            if kind == 91 {
-                return bracket(
-                    text, names, room, count, sort, start, end.at, at, next, depth,
-                );
-            }
-            if kind == 46 {
-                return judging::point(text, names, room, count, sort, start, end.at, at, next);
-            }
-            judging::put(
-                room,
-                count,
-                judging::plain(text, names, sort, start, end.at),
-                start,
-                end,
-            )
-        }
-        Taken::Refused { number, place: p } => Read::Refused {
-            number,
-            place: p,
-            count,
-        },
-    }
-}
-
-// The last part of the MUX at a place, whose bracket is at another.
-#[cycle(reading)]
-fn mux_third(
-    text: &[u8],
-    names: &[u16],
-    room: &mut [u32],
-    count: usize,
-    sort: u8,
-    place: usize,
-    at: usize,
-    first: Num,
-    second: Num,
-    from: Cursor,
-    depth: usize,
-) -> Read
-    ensures { seen result room.new ≡ third_of text.now names.now depth sort place at (num first) (num second) from.at (room.old, count) }
-{
-    match part(
-        text,
-        names,
-        room,
-        count,
-        judging::part_sort(sort),
-        at,
-        41,
-        from,
-        depth,
-    ) {
-        Read::Value {
-            value: _,
-            count: c,
-            next,
-        } => judging::put(room, c, judging::mark(sort, 6, place), place, next),
-        Read::Refused {
-            number,
-            place: p,
-            count: c,
-        } => Read::Refused {
-            number,
-            place: p,
-            count: c,
-        },
-    }
-}
-
-#[cycle(reading)]
-fn mux_second(
-    text: &[u8],
-    names: &[u16],
-    room: &mut [u32],
-    count: usize,
-    sort: u8,
-    place: usize,
-    at: usize,
-    first: Num,
-    from: Cursor,
-    depth: usize,
-) -> Read
-    ensures { seen result room.new ≡ second_of text.now names.now depth sort place at (num first) from.at (room.old, count) }
-{
-    match part(
-        text,
-        names,
-        room,
-        count,
-        judging::part_sort(sort),
-        at,
-        44,
-        from,
-        depth,
-    ) {
-        Read::Value {
-            value,
-            count: c,
-            next,
-        } => mux_third(
-            text, names, room, c, sort, place, at, first, value, next, depth,
+    let word = end.next(scope.text)?;
+    match word.kind {
+        Kind::OpenSquare => bracket(
+            scope, room, count, sort, start, end.at, word.start, word.next, depth,
         ),
-        Read::Refused {
-            number,
-            place: p,
-            count: c,
-        } => Read::Refused {
-            number,
-            place: p,
-            count: c,
-        },
+        Kind::Dot => scope.point(room, count, sort, start, end.at, word.start, word.next),
+        _ => judging::put(room, count, scope.plain(sort, start, end.at)?, start, end),
     }
 }
 
 // MUX at a place, from past it.
 #[cycle(reading)]
+#[tactic(auto, using(std::proofs::lemmas::Grind::common_steps), unfolding(grammar::specs::Grammar::muxed, grammar::specs::Grammar::mux_second, grammar::specs::Grammar::mux_third))]
 fn mux(
-    text: &[u8],
-    names: &[u16],
+    scope: Scope,
     room: &mut [u32],
-    count: usize,
-    sort: u8,
+    count: &mut usize,
+    sort: Sort,
     place: usize,
     from: Cursor,
     depth: usize,
-) -> Read
-    ensures { seen result room.new ≡ mux_of text.now names.now depth sort place from.at (room.old, count) }
+) -> Result<Read, Refusal>
+    ensures { seen result (room.new, count.new) ≡ mux_of scope.entry.text.now scope.entry.names.now depth (sort_of sort) place from.at (room.old, count.old) }
 {
-    match from.next(text) {
-        Taken::Word {
-            kind,
-            start,
-            value: _,
-            next,
-        } => {
-            if kind == 40 {
-                match part(
-                    text,
-                    names,
-                    room,
-                    count,
-                    judging::part_sort(sort),
-                    start,
-                    58,
-                    next,
-                    depth,
-                ) {
-                    Read::Value {
-                        value,
-                        count: c,
-                        next: n,
-                    } => mux_second(text, names, room, c, sort, place, start, value, n, depth),
-                    Read::Refused {
-                        number,
-                        place: p,
-                        count: c,
-                    } => Read::Refused {
-                        number,
-                        place: p,
-                        count: c,
-                    },
-                }
-            } else {
-                Read::Refused {
-                    number: 2,
-                    place: start,
-                    count,
-                }
-            }
-        }
-        Taken::Refused { number, place: p } => Read::Refused {
-            number,
-            place: p,
-            count,
-        },
+    let open = from.next(scope.text)?;
+    if open.kind != Kind::Open {
+        return Err(Refusal::new(Reason::Grammar, open.start));
     }
-}
-
-// Behind the first part of the REG at a place.
-#[cycle(reading)]
-fn rest(
-    text: &[u8],
-    names: &[u16],
-    room: &mut [u32],
-    count: usize,
-    sort: u8,
-    place: usize,
-    at: usize,
-    first: Num,
-    from: Cursor,
-    depth: usize,
-) -> Read
-    ensures { seen result room.new ≡ rest_of text.now names.now depth sort place at (num first) from.at (room.old, count) }
-{
-    match from.next(text) {
-        Taken::Word {
-            kind,
-            start,
-            value: _,
-            next,
-        } => {
-            if kind == 41 {
-                return judging::put(room, count, judging::mark(sort, 7, place), place, next);
-            }
-            if kind == 44 {
-                match part(
-                    text,
-                    names,
-                    room,
-                    count,
-                    judging::part_sort(sort),
-                    at,
-                    41,
-                    next,
-                    depth,
-                ) {
-                    Read::Value {
-                        value: _,
-                        count: c,
-                        next: n,
-                    } => judging::put(room, c, judging::mark(sort, 8, place), place, n),
-                    Read::Refused {
-                        number,
-                        place: p,
-                        count: c,
-                    } => Read::Refused {
-                        number,
-                        place: p,
-                        count: c,
-                    },
-                }
-            } else {
-                Read::Refused {
-                    number: 2,
-                    place: start,
-                    count,
-                }
-            }
-        }
-        Taken::Refused { number, place: p } => Read::Refused {
-            number,
-            place: p,
-            count,
-        },
-    }
+    let at = open.start;
+    let first = part(scope, room, count, sort.of_part(), at, Kind::Colon, open.next, depth)?;
+    let second = part(scope, room, count, sort.of_part(), at, Kind::Comma, first.next, depth)?;
+    let third = part(scope, room, count, sort.of_part(), at, Kind::Close, second.next, depth)?;
+    judging::put(room, count, judging::mark(sort, judging::MUX, place)?, place, third.next)
 }
 
 // REG at a place, from past it.
 #[cycle(reading)]
+#[tactic(auto, using(std::proofs::lemmas::Grind::common_steps), unfolding(grammar::specs::Grammar::regged, grammar::specs::Grammar::kept))]
 fn reg(
-    text: &[u8],
-    names: &[u16],
+    scope: Scope,
     room: &mut [u32],
-    count: usize,
-    sort: u8,
+    count: &mut usize,
+    sort: Sort,
     place: usize,
     from: Cursor,
     depth: usize,
-) -> Read
-    ensures { seen result room.new ≡ reg_of text.now names.now depth sort place from.at (room.old, count) }
+) -> Result<Read, Refusal>
+    ensures { seen result (room.new, count.new) ≡ reg_of scope.entry.text.now scope.entry.names.now depth (sort_of sort) place from.at (room.old, count.old) }
 {
-    match from.next(text) {
-        Taken::Word {
-            kind,
-            start,
-            value: _,
-            next,
-        } => {
-            if kind == 40 {
-                match inner(
-                    text,
-                    names,
-                    room,
-                    count,
-                    judging::part_sort(sort),
-                    start,
-                    next,
-                    depth,
-                ) {
-                    Read::Value {
-                        value,
-                        count: c,
-                        next: n,
-                    } => rest(text, names, room, c, sort, place, start, value, n, depth),
-                    Read::Refused {
-                        number,
-                        place: p,
-                        count: c,
-                    } => Read::Refused {
-                        number,
-                        place: p,
-                        count: c,
-                    },
-                }
-            } else {
-                Read::Refused {
-                    number: 2,
-                    place: start,
-                    count,
-                }
-            }
+    let open = from.next(scope.text)?;
+    if open.kind != Kind::Open {
+        return Err(Refusal::new(Reason::Grammar, open.start));
+    }
+    let at = open.start;
+    let first = inner(scope, room, count, sort.of_part(), at, open.next, depth)?;
+    let word = first.next.next(scope.text)?;
+    match word.kind {
+        Kind::Close => judging::put(room, count, judging::mark(sort, judging::REG, place)?, place, word.next),
+        Kind::Comma => {
+            let second = part(scope, room, count, sort.of_part(), at, Kind::Close, word.next, depth)?;
+            judging::put(room, count, judging::mark(sort, judging::HELD, place)?, place, second.next)
         }
-        Taken::Refused { number, place: p } => Read::Refused {
-            number,
-            place: p,
-            count,
-        },
+        _ => Err(Refusal::new(Reason::Grammar, word.start)),
     }
 }
 
-// A ~ at a place, from past it.
+// A ~ at a place, from past it: a factor within it, with one level fewer left.
 #[cycle(reading)]
+#[tactic(auto, using(std::proofs::lemmas::Grind::common_steps), unfolding(grammar::specs::Grammar::inverted))]
 fn invert(
-    text: &[u8],
-    names: &[u16],
+    scope: Scope,
     room: &mut [u32],
-    count: usize,
-    sort: u8,
+    count: &mut usize,
+    sort: Sort,
     place: usize,
     from: Cursor,
     depth: usize,
-) -> Read
-    ensures { seen result room.new ≡ inverted_of text.now names.now depth sort place from.at (room.old, count) }
+) -> Result<Read, Refusal>
+    ensures { seen result (room.new, count.new) ≡ inverted_of scope.entry.text.now scope.entry.names.now depth (sort_of sort) place from.at (room.old, count.old) }
 {
-    match negated(text, names, room, count, sort, place, from, depth) {
-        Read::Value {
-            value: _,
-            count: c,
-            next,
-        } => judging::put(room, c, judging::mark(sort, 2, place), place, next),
-        Read::Refused {
-            number,
-            place: p,
-            count: c,
-        } => Read::Refused {
-            number,
-            place: p,
-            count: c,
-        },
+    if depth == 0 {
+        return Err(Refusal::new(Reason::Limit, place));
     }
+    let read = factor(scope, room, count, sort, from, depth - 1)?;
+    judging::put(room, count, judging::mark(sort, judging::NOT, place)?, place, read.next)
 }
 
 #[cycle(reading)]
+#[tactic(auto, using(std::proofs::lemmas::Grind::common_steps), unfolding(grammar::specs::Grammar::factor))]
 fn factor(
-    text: &[u8],
-    names: &[u16],
+    scope: Scope,
     room: &mut [u32],
-    count: usize,
-    sort: u8,
+    count: &mut usize,
+    sort: Sort,
     from: Cursor,
     depth: usize,
-) -> Read
-    ensures { seen result room.new ≡ factor_of text.now names.now depth sort from.at (room.old, count) }
+) -> Result<Read, Refusal>
+    ensures { seen result (room.new, count.new) ≡ factor_of scope.entry.text.now scope.entry.names.now depth (sort_of sort) from.at (room.old, count.old) }
 {
-    match from.next(text) {
-        Taken::Word {
-            kind,
-            start,
-            value,
-            next,
-        } => {
-            if kind == 2 {
-                return judging::put(
-                    room,
-                    count,
-                    judging::literal(sort, start, value),
-                    start,
-                    next,
-                );
-            }
-            if kind == 4 {
-                return Read::Refused {
-                    number: 3,
-                    place: start,
-                    count,
-                };
-            }
-            if kind == 3 {
-                return judging::put(room, count, judging::logic(sort, start, value), start, next);
-            }
-            if kind == 1 {
-                return index(text, names, room, count, sort, start, next, depth);
-            }
-            if kind == 40 {
-                return part(text, names, room, count, sort, start, 41, next, depth);
-            }
-            if kind == 126 {
-                return invert(text, names, room, count, sort, start, next, depth);
-            }
-            if kind == 205 {
-                return mux(text, names, room, count, sort, start, next, depth);
-            }
-            if kind == 206 {
-                return reg(text, names, room, count, sort, start, next, depth);
-            }
-            Read::Refused {
-                number: 2,
-                place: start,
-                count,
-            }
-        }
-        Taken::Refused { number, place: p } => Read::Refused {
-            number,
-            place: p,
-            count,
-        },
+    let word = from.next(scope.text)?;
+    let start = word.start;
+    match word.kind {
+        Kind::Number => judging::put(room, count, judging::literal(sort, start, word.value)?, start, word.next),
+        Kind::Large => Err(Refusal::new(Reason::Arithmetic, start)),
+        Kind::Logic => judging::put(room, count, judging::logic(sort, start, word.value)?, start, word.next),
+        Kind::Name => index(scope, room, count, sort, start, word.next, depth),
+        Kind::Open => part(scope, room, count, sort, start, Kind::Close, word.next, depth),
+        Kind::Tilde => invert(scope, room, count, sort, start, word.next, depth),
+        Kind::Mux => mux(scope, room, count, sort, start, word.next, depth),
+        Kind::Reg => reg(scope, room, count, sort, start, word.next, depth),
+        _ => Err(Refusal::new(Reason::Grammar, start)),
     }
 }
 
+// What stands between the operators of a level.
 #[cycle(reading)]
-fn product_turn(
-    text: &[u8],
-    names: &[u16],
+fn operand(
+    scope: Scope,
     room: &mut [u32],
-    count: usize,
-    sort: u8,
-    left: Num,
+    count: &mut usize,
+    level: Level,
+    sort: Sort,
     from: Cursor,
     depth: usize,
-) -> Step
-    ensures { seen_step result room.new ≡ product_turn_of text.now names.now depth sort (num left) from.at (room.old, count) }
+) -> Result<Read, Refusal>
+    ensures { seen result (room.new, count.new) ≡ operand_of scope.entry.text.now scope.entry.names.now depth level (sort_of sort) from.at (room.old, count.old) }
 {
-    match from.next(text) {
-        Taken::Word {
-            kind,
-            start,
-            value: _,
-            next,
-        } => {
-            if judging::is_product(kind) {
-                match factor(text, names, room, count, sort, next, depth) {
-                    Read::Value {
-                        value: right,
-                        count: c,
-                        next: past,
-                    } => match judging::put(
-                        room,
-                        c,
-                        judging::operate(sort, kind, start, left, right),
-                        start,
-                        past,
-                    ) {
-                        Read::Value {
-                            value: v,
-                            count: k,
-                            next: n,
-                        } => Step::More {
-                            value: v,
-                            count: k,
-                            next: n,
-                        },
-                        Read::Refused {
-                            number,
-                            place: p,
-                            count: k,
-                        } => Step::Stop {
-                            number,
-                            place: p,
-                            count: k,
-                        },
-                    },
-                    Read::Refused {
-                        number,
-                        place: p,
-                        count: c,
-                    } => Step::Stop {
-                        number,
-                        place: p,
-                        count: c,
-                    },
-                }
-            } else {
-                Step::Last {
-                    value: left,
-                    count,
-                    next: from,
-                }
-            }
-        }
-        Taken::Refused { number, place: p } => Step::Stop {
-            number,
-            place: p,
-            count,
-        },
+    match level {
+        Level::Sum => operands(scope, room, count, Level::Product, sort, from, depth),
+        Level::Product => factor(scope, room, count, sort, from, depth),
     }
 }
 
+// Behind an operand: an operator and the next one, or the end of the chain.
 #[cycle(reading)]
-fn products(
-    text: &[u8],
-    names: &[u16],
+#[tactic(auto, using(std::proofs::lemmas::Grind::common_steps), unfolding(grammar::specs::Grammar::turn))]
+fn turn(
+    scope: Scope,
     room: &mut [u32],
-    count: usize,
-    sort: u8,
-    first: Num,
-    from: Cursor,
+    count: &mut usize,
+    level: Level,
+    sort: Sort,
+    left: Read,
     depth: usize,
-) -> Read
-    ensures { seen result room.new ≡ products_of text.now names.now depth sort (num first) from.at (room.old, count) }
+) -> Result<Step, Refusal>
+    ensures { seen_step result (room.new, count.new) ≡ turn_of scope.entry.text.now scope.entry.names.now depth level (sort_of sort) (num left.value) left.next.at (room.old, count.old) }
+{
+    let word = left.next.next(scope.text)?;
+    if !is_operator(level, word.kind) {
+        return Ok(Step::Last(left));
+    }
+    let right = operand(scope, room, count, level, sort, word.next, depth)?;
+    let verdict = judging::operate(sort, word.kind, word.start, left.value, right.value)?;
+    Ok(Step::More(judging::put(room, count, verdict, word.start, right.next)?))
+}
+
+// Behind a first operand: all turns of the chain.
+#[cycle(reading)]
+fn chain(
+    scope: Scope,
+    room: &mut [u32],
+    count: &mut usize,
+    level: Level,
+    sort: Sort,
+    first: Read,
+    depth: usize,
+) -> Result<Read, Refusal>
+    ensures { seen result (room.new, count.new) ≡ chain_of scope.entry.text.now scope.entry.names.now depth level (sort_of sort) (num first.value) first.next.at (room.old, count.old) }
 {
     let mut left = first;
-    let mut n = count;
-    let mut at = from.at;
     loop {
-        match product_turn(text, names, room, n, sort, left, Cursor { at }, depth) {
-            Step::More {
-                value,
-                count: c,
-                next,
-            } => {
-                left = value;
-                n = c;
-                at = next.at;
-            }
-            Step::Last {
-                value,
-                count: c,
-                next,
-            } => return Read::Value {
-                value,
-                count: c,
-                next,
-            },
-            Step::Stop {
-                number,
-                place: p,
-                count: c,
-            } => return Read::Refused {
-                number,
-                place: p,
-                count: c,
-            },
+        match turn(scope, room, count, level, sort, left, depth)? {
+            Step::More(read) => left = read,
+            Step::Last(read) => return Ok(read),
         }
     }
 }
 
+// Operands with the operators of a level between them.
 #[cycle(reading)]
-fn term(
-    text: &[u8],
-    names: &[u16],
+#[tactic(auto, using(std::proofs::lemmas::Grind::common_steps), unfolding(grammar::specs::Grammar::expression, grammar::specs::Grammar::term, grammar::specs::Grammar::level))]
+fn operands(
+    scope: Scope,
     room: &mut [u32],
-    count: usize,
-    sort: u8,
+    count: &mut usize,
+    level: Level,
+    sort: Sort,
     from: Cursor,
     depth: usize,
-) -> Read
-    ensures { seen result room.new ≡ term_of text.now names.now depth sort from.at (room.old, count) }
+) -> Result<Read, Refusal>
+    ensures { seen result (room.new, count.new) ≡ level_of scope.entry.text.now scope.entry.names.now depth level (sort_of sort) from.at (room.old, count.old) }
 {
-    match factor(text, names, room, count, sort, from, depth) {
-        Read::Value {
-            value,
-            count: c,
-            next,
-        } => products(text, names, room, c, sort, value, next, depth),
-        Read::Refused {
-            number,
-            place: p,
-            count: c,
-        } => Read::Refused {
-            number,
-            place: p,
-            count: c,
-        },
-    }
-}
-
-#[cycle(reading)]
-fn sum_turn(
-    text: &[u8],
-    names: &[u16],
-    room: &mut [u32],
-    count: usize,
-    sort: u8,
-    left: Num,
-    from: Cursor,
-    depth: usize,
-) -> Step
-    ensures { seen_step result room.new ≡ sum_turn_of text.now names.now depth sort (num left) from.at (room.old, count) }
-{
-    match from.next(text) {
-        Taken::Word {
-            kind,
-            start,
-            value: _,
-            next,
-        } => {
-            if judging::is_sum(kind) {
-                match term(text, names, room, count, sort, next, depth) {
-                    Read::Value {
-                        value: right,
-                        count: c,
-                        next: past,
-                    } => match judging::put(
-                        room,
-                        c,
-                        judging::operate(sort, kind, start, left, right),
-                        start,
-                        past,
-                    ) {
-                        Read::Value {
-                            value: v,
-                            count: k,
-                            next: n,
-                        } => Step::More {
-                            value: v,
-                            count: k,
-                            next: n,
-                        },
-                        Read::Refused {
-                            number,
-                            place: p,
-                            count: k,
-                        } => Step::Stop {
-                            number,
-                            place: p,
-                            count: k,
-                        },
-                    },
-                    Read::Refused {
-                        number,
-                        place: p,
-                        count: c,
-                    } => Step::Stop {
-                        number,
-                        place: p,
-                        count: c,
-                    },
-                }
-            } else {
-                Step::Last {
-                    value: left,
-                    count,
-                    next: from,
-                }
-            }
-        }
-        Taken::Refused { number, place: p } => Step::Stop {
-            number,
-            place: p,
-            count,
-        },
-    }
-}
-
-#[cycle(reading)]
-fn sums(
-    text: &[u8],
-    names: &[u16],
-    room: &mut [u32],
-    count: usize,
-    sort: u8,
-    first: Num,
-    from: Cursor,
-    depth: usize,
-) -> Read
-    ensures { seen result room.new ≡ sums_of text.now names.now depth sort (num first) from.at (room.old, count) }
-{
-    let mut left = first;
-    let mut n = count;
-    let mut at = from.at;
-    loop {
-        match sum_turn(text, names, room, n, sort, left, Cursor { at }, depth) {
-            Step::More {
-                value,
-                count: c,
-                next,
-            } => {
-                left = value;
-                n = c;
-                at = next.at;
-            }
-            Step::Last {
-                value,
-                count: c,
-                next,
-            } => return Read::Value {
-                value,
-                count: c,
-                next,
-            },
-            Step::Stop {
-                number,
-                place: p,
-                count: c,
-            } => return Read::Refused {
-                number,
-                place: p,
-                count: c,
-            },
-        }
-    }
+    let first = operand(scope, room, count, level, sort, from, depth)?;
+    chain(scope, room, count, level, sort, first, depth)
 }
 
 #[cycle(reading)]
 pub fn expression(
-    text: &[u8],
-    names: &[u16],
+    scope: Scope,
     room: &mut [u32],
-    count: usize,
-    sort: u8,
+    count: &mut usize,
+    sort: Sort,
     from: Cursor,
     depth: usize,
-) -> Read
-    ensures { seen result room.new ≡ expression_of text.now names.now depth sort from.at (room.old, count) }
+) -> Result<Read, Refusal>
+    ensures { seen result (room.new, count.new) ≡ expression_of scope.entry.text.now scope.entry.names.now depth (sort_of sort) from.at (room.old, count.old) }
 {
-    match term(text, names, room, count, sort, from, depth) {
-        Read::Value {
-            value,
-            count: c,
-            next,
-        } => sums(text, names, room, c, sort, value, next, depth),
-        Read::Refused {
-            number,
-            place: p,
-            count: c,
-        } => Read::Refused {
-            number,
-            place: p,
-            count: c,
-        },
-    }
+    operands(scope, room, count, Level::Sum, sort, from, depth)
 }

@@ -1,6 +1,8 @@
 -- Kinds by number: each has one of its own. Assumes nothing.
-use Rattle.std.proofs.Common.{◌≡◌, ℕ, refl, sym, ap, ◌∙◌, false, eqb}
+use Rattle.std.proofs.Common.{◌≡◌, ℕ, refl, sym, ap, ◌∙◌, true, false, not, eqb}
 use borrow.Author.Tests.{ne_eqb}
+use denote.Enum.Bare.{sameb, differs_true, differs_false}
+use Rattle.words.specs.contracts.Kind.{the_type}
 use Rattle.basics.specs.Choice.{pick}
 use Rattle.words.specs.declared.Kind.{Kind}
 use Rattle.words.specs.declared.Kind.TheVariants.{TextEnd, Name, Number, Logic, Large, Open, Close, Star, Plus, Comma, Minus, Dot, Colon, Semicolon, OpenSquare, CloseSquare, Caret, Tilde, Range, Place, Becomes, For, Do, End, Div, Mod, Mux, Reg, Module, Const, In, Out, Var, Begin, Bit, «Type», Import, Inout, Ts, Oc, Latch, Sr, Clock, If, Then, Elsif, Else}
@@ -113,3 +115,10 @@ code_one k m e = sym (kind_of_code k) ∙ ap kind_of e ∙ kind_of_code m
 -- what a test on kinds tells of the test on their numbers
 pub code_other : (k m : Kind) → (k ≡ m → ⊥) → eqb (code k) (code m) ≡ false
 code_other k m n = ne_eqb _ _ (λ e. n (code_one k m e))
+
+-- what `!=` on kinds tells
+pub same_kind : (k m : Kind) → not (sameb the_type k m) ≡ false → k ≡ m
+same_kind k m e = differs_false the_type tt k m e
+
+pub other_kind : (k m : Kind) → not (sameb the_type k m) ≡ true → k ≡ m → ⊥
+other_kind k m e = differs_true the_type k m e
