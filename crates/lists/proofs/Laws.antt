@@ -1,14 +1,19 @@
 -- A walk along a list goes forward, so it is its first word and then the rest of it.
 -- Assumes nothing.
 use mathlib.Core.Path.{◌≡◌, refl, sym, ap, subst}
-use mathlib.Core.Bool.{Bool, true, false}
+use mathlib.Core.Bool.{true, false}
 use mathlib.Core.List.{List}
 use Prim.Native.Nat.{ℕ, suc, ◌-◌, ◌<◌, ◌≤◌}
 use native.Mathlib.Omega.{arith}
 use lib.ListN.{length}
 use lib.Dec.{eqb, leb}
 use borrow.Author.Tests.{eqb-false, le-leb, lt-leb}
-use Rattle.basics.specs.Choice.{pick}
+use denote.Enum.Bare.{sameb, same_true, same_false}
+use Rattle.words.specs.contracts.Kind.{the_type}
+use Rattle.words.specs.Kinds.{code}
+use Rattle.words.specs.declared.Kind.{Kind}
+use Rattle.words.specs.declared.Kind.TheVariants.{TextEnd}
+use Rattle.words.proofs.Codes.{code_other}
 use Rattle.words.specs.declared.Cursor.{Cursor}
 use Rattle.words.specs.Taken.{Word, Refused}
 use Rattle.words.specs.Words.{next_word}
@@ -19,6 +24,13 @@ use Rattle.grammar.specs.Modules.{repeat}
 use Rattle.grammar.proofs.Chain.{Near, PastT, other}
 use Rattle.grammar.proofs.Turns.{turn_pick, turn_word, repeat_more, repeat_last, repeat_falls, near_repeat}
 use Rattle.lists.specs.Lists.{is_known, back_turn, back_of, is_back, fresh_name, fresh_turn, fresh_of}
+
+-- whether a word is the text's end
+pub is_end : (k : Kind) → sameb the_type k TextEnd ≡ true → eqb (code k) 0 ≡ true
+is_end k e = ap (λ (k : Kind). eqb (code k) 0) (same_true the_type tt k TextEnd e)
+
+pub no_end : (k : Kind) → sameb the_type k TextEnd ≡ false → eqb (code k) 0 ≡ false
+no_end k e = code_other k TextEnd (same_false the_type k TextEnd e)
 
 module _ (s : List ℕ) (st e : ℕ) where
   back-far : (v at : ℕ) (x : Unit {0}) → PastT (length s) at (back_turn s st e v at x)

@@ -21,13 +21,13 @@ enum Walk {
     End(Cursor),
 }
 
-// How many levels of nesting an expression may have.
-pub const LEVELS: usize = 32;
+// How many bytes a name has at most.
+const LONGEST: usize = 16;
 
-// How many bits a name has at most.
-const BITS: usize = 128;
+// Names are noted at places below this, in texts no longer than it: a place and one is held by a cell.
+const PLACES: usize = 65535;
 
-// How many cells a sieve has: places are below 65,535, and each has two cells.
+// How many cells a sieve has: those that names begin at, and two for each place of a text of 32,768 bytes.
 const CELLS: usize = 65554;
 
 // Whether a name is known.
@@ -38,7 +38,7 @@ pub fn is_known(scope: Scope, start: usize, end: usize) -> bool
 }
 
 // Whether a name stands in its list before.
-#[tactic(auto, using(std::proofs::lemmas::Grind::common_steps, crate::proofs::Laws::back_ended, crate::proofs::Laws::back_ahead, crate::proofs::Laws::back_found, crate::proofs::Laws::back_past, crate::proofs::Laws::back_none, crate::proofs::Laws::word_falls, words::proofs::Codes::code_other), unfolding(crate::specs::Lists::back_of))]
+#[tactic(auto, using(std::proofs::lemmas::Grind::common_steps, crate::proofs::Laws::back_none), unfolding(crate::specs::Lists::back_of))]
 fn stands_before(text: &[u8], first: usize, start: usize, end: usize) -> bool
     ensures { result ≡ is_back (back_of text.now first start end) }
 {
@@ -90,7 +90,7 @@ fn spot_in(text: &[u8], sieve: &[u16], start: usize, n: usize) -> Option<usize>
     ensures within { IfSome result (λ i. i < length sieve.now) }
 {
     let mut i = n;
-    for d in 0..BITS {
+    for d in 0..8 * LONGEST {
         let cell = usize::from(*sieve.get(i)?);
         if cell == 0 {
             return Some(i);
@@ -98,7 +98,7 @@ fn spot_in(text: &[u8], sieve: &[u16], start: usize, n: usize) -> Option<usize>
         if names::same_name(text, cell - 1, n, start, n) {
             return None;
         }
-        i = 2 * cell + 16 + branch_in(text, start, n, d);
+        i = 2 * cell + LONGEST + branch_in(text, start, n, d);
     }
     None
 }
@@ -109,7 +109,7 @@ fn note(text: &[u8], sieve: &mut [u16], start: usize, n: usize) -> bool
     ensures new { result ≡ is_new text.now sieve.old start n }
     ensures noted { sieve.new ≡ noted text.now sieve.old start n }
 {
-    if text.len() > 65535 || start >= 65535 {
+    if text.len() > PLACES || start >= PLACES {
         return false;
     }
     match spot_in(text, sieve, start, n) {
@@ -151,12 +151,7 @@ fn fresh_name(
 
 // One word of a list.
 #[tactic(auto, using(std::proofs::lemmas::Grind::common_steps), unfolding(crate::specs::Sieve::turn_by, crate::specs::Sieve::sieve_by))]
-fn fresh_turn(
-    scope: Scope,
-    sieve: &mut [u16],
-    first: usize,
-    from: Cursor,
-) -> Result<Walk, Refusal>
+fn fresh_turn(scope: Scope, sieve: &mut [u16], first: usize, from: Cursor) -> Result<Walk, Refusal>
     ensures walk { seen_walk result ≡ turn_by scope.entry.text.now scope.entry.names.now sieve.old first from.at }
     ensures sieve { sieve.new ≡ sieve_by scope.entry.text.now sieve.old from.at }
 {
@@ -228,7 +223,8 @@ fn read_length(
     ensures { seen result (room.new, count.new) ≡ length_of scope.entry.text.now scope.entry.names.now from.at (room.old, count.old) }
 {
     let place = from.next(scope.text)?.start;
-    let length = readers::expression(scope, room, count, Sort::Number, from, LEVELS)?;
+    let depth = grammar::level_limit();
+    let length = readers::expression(scope, room, count, Sort::Number, from, depth)?;
     if !is_length(length.value) {
         return Err(Refusal::new(Reason::Index, place));
     }

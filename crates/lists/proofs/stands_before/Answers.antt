@@ -1,25 +1,13 @@
-use Rattle.std.proofs.Common.{◌≡◌, sym, ap, ◌∙◌, true, false, eqb}
-use denote.Enum.Bare.{sameb, same_true, same_false}
-use Rattle.words.specs.contracts.Kind.{the_type}
-use Rattle.words.specs.Kinds.{code}
-use Rattle.words.specs.declared.Kind.{Kind}
-use Rattle.words.specs.declared.Kind.TheVariants.{TextEnd}
-use Rattle.words.proofs.Codes.{code_other}
-use Rattle.lists.proofs.Laws.{back_ended, back_ahead, back_found, back_past, word_falls}
+use Rattle.std.proofs.Common.{sym, ◌∙◌}
+use Rattle.lists.proofs.Laws.{is_end, no_end, back_ended, back_ahead, back_found, back_past, word_falls}
 use Rattle.lists.proofs.stands_before.Goals.{then-eq-via-then-eq, then-eq-via-else-eq+then-start-word}
 use Rattle.lists.proofs.stands_before.Goals as goal
 
-is_end : (k : Kind) → sameb the_type k TextEnd ≡ true → eqb (code k) 0 ≡ true
-is_end k e = ap (λ k. eqb (code k) 0) (same_true the_type tt k TextEnd e)
-
-no_end : (k : Kind) → sameb the_type k TextEnd ≡ false → eqb (code k) 0 ≡ false
-no_end k e = code_other k TextEnd (same_false the_type k TextEnd e)
-
 pub returns-then-eq : goal.returns-then-eq
 returns-then-eq c = elim c.then-eq.branch [
-    then-eq-via-then-eq w ↦ sym (back_ended _ _ _ _ _ _ _ _ c.in-Ok.ensures (is_end _ (sym w.if-eq.ensures))) ∙ c.loop-word.invariant
+  | then-eq-via-then-eq w ↦ sym (back_ended _ _ _ _ _ _ _ _ c.in-Ok.ensures (is_end _ (sym w.if-eq.ensures))) ∙ c.loop-word.invariant
   | then-eq-via-else-eq+then-start-word w ↦ sym (back_ahead _ _ _ _ _ _ _ _ c.in-Ok.ensures (no_end _ (sym w.if-eq.ensures)) w.if-start-word.true) ∙ c.loop-word.invariant
-  ]
+]
 
 pub returns-then-same_name : goal.returns-then-same_name
 returns-then-same_name c =
