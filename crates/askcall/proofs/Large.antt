@@ -17,9 +17,8 @@ use Rattle.engine.proofs.Walk.{few_three}
 use Rattle.outputs.specs.Outputs.{stage_six}
 use Rattle.outputs.proofs.Trying.{out_pin}
 use Rattle.outmap.proofs.Filling.{out_is}
-use Rattle.question.specs.declared.Asked.{Asked}
-use Rattle.question.specs.declared.Asked.TheVariants.{Refused as Refuses}
-use Rattle.question.specs.Question.{asked}
+use Rattle.question.specs.Question.Asked.{Refused as Refuses}
+use Rattle.question.specs.Question.{Asked, asked}
 use Rattle.question.proofs.Asking.{few_pins, beyond, asked_out, asked_none}
 use Rattle.texts.specs.Stages.{Front, stays, refused, unless, front_of, fitting, whole_of}
 use Rattle.texts.proofs.Sound.{passed_five}

@@ -15,9 +15,8 @@ use Rattle.pins.specs.Variables.{count_of}
 use Rattle.sums.specs.Product.{Digit, imp, prime, grade, verdict, digits}
 use Rattle.engine.specs.Table.{function}
 use Rattle.outputs.specs.Outputs.{stage_six}
-use Rattle.question.specs.declared.Asked.{Asked}
-use Rattle.question.specs.declared.Asked.TheVariants.{Verdict as Judged, Refused as Refuses}
-use Rattle.question.specs.Question.{question_table, asked_of, asked}
+use Rattle.question.specs.Question.Asked.{Verdict as Judged, Refused as Refuses}
+use Rattle.question.specs.Question.{Asked, question_table, asked_of, asked}
 use Rattle.texts.specs.Stages.{Front, stays, refused, unless, front_of, whole_of}
 use Rattle.texts.proofs.Calling.{zeros_length, zeros_twice, whole_stays, whole_refused}
 use Rattle.askcall.specs.declared.Graded.{Graded}

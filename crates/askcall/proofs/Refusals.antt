@@ -2,8 +2,8 @@
 use mathlib.Core.Path.{◌≡◌, ◌∙◌, subst}
 use mathlib.Core.List.{List}
 use Prim.Native.Nat.{ℕ}
-use Rattle.question.specs.declared.Asked.{Asked}
-use Rattle.question.specs.declared.Asked.TheVariants.{Verdict, Refused as Refuses}
+use Rattle.question.specs.Question.{Asked}
+use Rattle.question.specs.Question.Asked.{Verdict, Refused as Refuses}
 use Rattle.askcall.specs.declared.Graded.TheVariants.{Refused}
 use Rattle.askcall.specs.Asking.{graded_of, Asks}
 use lib.ListN.{length}

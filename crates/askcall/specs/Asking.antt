@@ -2,9 +2,8 @@
 use Rattle.std.specs.Prelude.{◌≡◌, List, ℕ, leb, length, replicate}
 use Rattle.basics.specs.Choice.{pick}
 use Rattle.trees.specs.Layout.{elements_of}
-use Rattle.question.specs.declared.Asked.{Asked}
-use Rattle.question.specs.declared.Asked.TheVariants.{Verdict, Refused as Refuses}
-use Rattle.question.specs.Question.{asked}
+use Rattle.question.specs.Question.Asked.{Verdict, Refused as Refuses}
+use Rattle.question.specs.Question.{Asked, asked}
 use Rattle.texts.specs.Stages.{Front, stays, refused, whole_of}
 use Rattle.askcall.specs.declared.Graded.{Graded}
 use Rattle.askcall.specs.declared.Graded.TheVariants.{NoImplicant, Implicant, Prime, Refused}

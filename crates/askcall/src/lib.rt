@@ -2,6 +2,7 @@
 #![tactic(auto)]
 
 ghost use Rattle.std.specs.Prelude.{◌≡◌, ℕ, ◌≤◌, length, replicate};
+ghost use Rattle.engine.specs.Grade.{grade_number};
 ghost use Rattle.trees.specs.Layout.{elements_of};
 ghost use Rattle.circuit.specs.StageFive.{stage_five};
 ghost use Rattle.circuit.specs.StageFive.Verdict.{fine};
@@ -11,9 +12,8 @@ ghost use Rattle.texts.specs.Stages.{unless, whole_of};
 ghost use Rattle.askcall.specs.Asking.{grade_of, questioned, Does, Asks};
 ghost use Rattle.askcall.specs.Naming.{case_of};
 
+use engine::Grade;
 use lola::Told;
-use outmap::Sixth;
-use question::Asked;
 
 // What a product is to the function asked about, or a refusal.
 #[derive(Clone, Copy)]
@@ -25,16 +25,14 @@ pub enum Graded {
 }
 
 // The case of a grade.
-fn case_of(grade: u8) -> Graded
-    ensures { result ≡ case_of grade }
+fn case_of(grade: Grade) -> Graded
+    ensures { result ≡ case_of (grade_number grade) }
 {
-    if grade == 0 {
-        return Graded::NoImplicant;
+    match grade {
+        Grade::NoImplicant => Graded::NoImplicant,
+        Grade::Implicant => Graded::Implicant,
+        Grade::Prime => Graded::Prime,
     }
-    if grade == 1 {
-        return Graded::Implicant;
-    }
-    Graded::Prime
 }
 
 // The question, of elements that all stages let pass.
@@ -46,8 +44,11 @@ fn ask_fitted(parts: &[u32], pin: usize, product: usize, room: &mut [u8]) -> Gra
     ensures room_after { room.new ≡ replicate (length room.old) 0 }
 {
     match question::ask_output(parts, pin, product, room) {
-        Asked::Verdict { grade } => case_of(grade),
-        Asked::Refused { number, place } => Graded::Refused { number, place },
+        Ok(grade) => case_of(grade),
+        Err(refusal) => Graded::Refused {
+            number: refusal.reason.number(),
+            place: refusal.place,
+        },
     }
 }
 
@@ -60,8 +61,11 @@ fn ask_parts(parts: &[u32], pin: usize, product: usize, room: &mut [u8]) -> Grad
     let mut map = [0u8; 5892];
     let mut facts = [0u32; 20];
     match outmap::map_outputs(parts, room, &mut map, &mut facts) {
-        Sixth::Fine => ask_fitted(parts, pin, product, room),
-        Sixth::Refused { number, place } => Graded::Refused { number, place },
+        Ok(()) => ask_fitted(parts, pin, product, room),
+        Err(refusal) => Graded::Refused {
+            number: refusal.reason.number(),
+            place: refusal.place,
+        },
     }
 }
 

@@ -2,21 +2,23 @@
 -- Assumes nothing.
 use mathlib.Core.Path.{◌≡◌, refl, sym, ap, ap₂, ◌∙◌, subst}
 use mathlib.Core.Logic.{⊎_elim, ◌≢◌}
-use mathlib.Core.Bool.{Bool, true, false, not, ◌||◌}
-use mathlib.Core.List.{List}
-use Prim.Native.Nat.{ℕ, ◌+◌, ◌-◌, ◌*◌, ◌/◌, ◌%◌, ◌≤◌, ◌<◌}
+use mathlib.Core.Bool.{Bool, true, false, cond, not, ◌||◌}
+use mathlib.Core.List.{List, [], ◌∷◌}
+use Prim.Native.Nat.{ℕ, zero, suc, ◌+◌, ◌-◌, ◌*◌, ◌/◌, ◌%◌, ◌≤◌, ◌<◌}
 use native.Mathlib.Omega.{arith}
-use borrow.Author.Tests.{lt-ltb, le-ltb, le-leb}
+use borrow.Author.Tests.{lt-ltb, le-ltb, le-leb, eq-eqb, ne_eqb}
 use lib.Dec.{eqb, leb, ltb, eqb→eq, leb→le}
-use lib.ListN.{length, get_or, set}
+use lib.ListN.{length, get_or, set, replicate}
+use Rattle.std.specs.List.{filter, range_with_len}
 use Rattle.basics.specs.Choice.{bit, pick}
 use Rattle.basics.specs.Below.{all_below, tally}
 use Rattle.basics.proofs.Truth.{of_true, clash}
-use Rattle.basics.proofs.Folds.{all_at, tally_next, tally_le, Listing, listing_more, listing_end, listed_same}
+use Rattle.basics.proofs.Folds.{all_at, tally_le, Listing, listing_more, listing_end, listed_same}
 use Rattle.basics.proofs.Store.{below_or_not}
 use Rattle.device.proofs.Rule.{products_few}
 use Rattle.device.specs.Device.{enable_of, products_of}
-use Rattle.cells.specs.Map.{cell_at, row_at, row_fuse, switch_fuse, fuse_at, map_of, Begun, Written}
+use Rattle.rows.specs.Row.{product_row}
+use Rattle.cells.specs.Map.{used, cell_row, cell_at, row_at, row_fuse, switch_fuse, fuse_at, map_of, Begun, Written}
 
 -- ---- the cell of a row
 
@@ -58,28 +60,27 @@ cell_of_lem k a h l =
 
 -- ---- the loops
 
--- counting the cells that have begun
-pub record Counting (r k n : ℕ) : Type 0 where
-  pub under : k ≤ 9
-  pub says : n ≡ tally (λ j. leb (enable_of (j + 1)) r) k
-  pub few : n ≤ k
-
-pub counting_start : (r : ℕ) → Counting r 0 0
+tally_first : (f : ℕ → Bool) (n : ℕ) → bit (f 0) + tally (λ i. f (suc i)) n ≡ tally f (suc n)
 unfolding tally
-counting_start r = record { under = omega arith; says = refl; few = omega arith }
+tally_first f zero = refl
+tally_first f (suc n) = let e = tally_first f n in omega arith
 
-pub counting_more : (r k n first x : ℕ) → k < 9 → Counting r k n → first ≡ enable_of (k + 1) → x ≡ bit (leb first r) → Counting r (k + 1) (n + x)
-counting_more r k n first x h c e d =
-    let f : ℕ → Bool = λ j. leb (enable_of (j + 1)) r in
-    let a : x ≡ bit (f k) = d ∙ ap (λ (y : ℕ). bit (leb y r)) e in
-    let b = tally_next f k in
-    let s = c.says in
-    let g : n + x ≡ tally f (k + 1) = omega arith in
-    record { under = omega arith; says = g; few = let t = tally_le f (k + 1) in omega arith }
+one_more : (b : Bool) (a : ℕ) (l : List ℕ) → length (cond b (a ∷ l) l) ≡ bit b + length l
+one_more true a l = omega arith
+one_more false a l = omega arith
 
-pub counting_end : (r k n : ℕ) → 9 ≤ k → Counting r k n → n ≡ cell_at r
+count_is : (p f : ℕ → Bool) (a n : ℕ) → ((i : ℕ) → i < n → p (a + i) ≡ f i) → length (filter p (range_with_len a n)) ≡ tally f n
+unfolding tally
+count_is p f a zero e = refl
+count_is p f a (suc n) e =
+    one_more (p a) a (filter p (range_with_len (a + 1) n))
+    ∙ ap₂ (λ (x : Bool) (y : ℕ). bit x + y) (ap p (omega arith) ∙ e 0 (omega arith)) (count_is p (λ i. f (suc i)) (a + 1) n (λ i h. ap p (omega arith) ∙ e (suc i) (omega arith)))
+    ∙ tally_first f n
+
+-- the cells that have begun by row r, the first not counted
+pub begun_count : (r : ℕ) → length (filter (λ k. leb (enable_of k) r) (range_with_len 1 9)) ≡ cell_at r
 unfolding cell_at
-counting_end r k n h c = let u = c.under in let e : k ≡ 9 = omega arith in c.says ∙ ap (tally (λ j. leb (enable_of (j + 1)) r)) e
+begun_count r = count_is (λ k. leb (enable_of k) r) (λ k. leb (enable_of (k + 1)) r) 1 9 (λ i h. ap (λ (k : ℕ). leb (enable_of k) r) (omega arith))
 
 -- writing all rows
 pub record Rows (all : List (List ℕ)) (counts kinds m : List ℕ) (r : ℕ) : Type 0 where
@@ -161,3 +162,20 @@ pub last_end : (all : List (List ℕ)) (counts kinds s0s m₀ m : List ℕ) (i :
 unfolding map_of
 last_end all counts kinds s0s m₀ m i b h c =
     listing_end (last_fuse kinds s0s m₀) 5892 m i h c ∙ listed_same (last_fuse kinds s0s m₀) (fuse_at all counts kinds s0s) 5892 (λ j l. last_is all counts kinds s0s m₀ b j)
+
+-- ---- the enable row of a cell in use is open
+
+module _ (all : List (List ℕ)) (counts kinds : List ℕ) (r : ℕ) (fs : List ℕ) where
+  row-cell : (r ≡ 0 → ⊥) → (r ≡ 131 → ⊥) → (k a : ℕ) → k ≡ cell_at r → a ≡ r - enable_of k → cell_row (used kinds k) (get_or counts k 0) (get_or all k []) a ≡ row_at all counts kinds r
+  unfolding row_at
+  row-cell n l k a ek ea =
+      ap (cell_row (used kinds k) (get_or counts k 0) (get_or all k [])) ea
+      ∙ ap (λ (j : ℕ). cell_row (used kinds j) (get_or counts j 0) (get_or all j []) (r - enable_of j)) ek
+      ∙ ap₂ (λ (a b : Bool). pick (a || b) (replicate 44 0) (cell_row (used kinds (cell_at r)) (get_or counts (cell_at r) 0) (get_or all (cell_at r) []) (r - enable_of (cell_at r)))) (sym (ne_eqb r 0 n)) (sym (ne_eqb r 131 l))
+
+  pub row_open : (r ≡ 0 → ⊥) → (r ≡ 131 → ⊥) → (k a : ℕ) → k ≡ cell_at r → (get_or kinds k 0 ≡ 0 → ⊥) → a ≡ r - enable_of k → a ≡ 0 → fs ≡ replicate 44 1 → fs ≡ row_at all counts kinds r
+  unfolding cell_row
+  row_open n l k a ek u ea h e =
+      e
+      ∙ ap₂ (λ (b d : Bool). pick (not (not b)) (replicate 44 0) (pick d (replicate 44 1) (pick (leb a (get_or counts k 0)) (product_row (get_or (get_or all k []) (a - 1) 0)) (replicate 44 0)))) (sym (ne_eqb (get_or kinds k 0) 0 u)) (sym (eq-eqb a 0 h))
+      ∙ row-cell n l k a ek ea

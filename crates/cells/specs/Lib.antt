@@ -1,2 +1,3 @@
 pub mod Map
 pub mod Counts
+pub mod Kind

@@ -4,17 +4,26 @@
 ghost use Rattle.std.specs.Prelude.{◌≡◌, ◌+◌, ◌<◌, ◌≤◌, leb, ltb, length, get_or, take};
 ghost use Rattle.basics.specs.Choice.{bit, pick};
 ghost use Rattle.cells.specs.Map.{used, clocked, cell_at, row_at, row_fuse, s0_fuse, s1_fuse, switch_fuse, map_of, Begun, Written};
+ghost use Rattle.cells.specs.Kind.{numbers};
 ghost use Rattle.cells.specs.Counts.{picks};
 
 use rows::{Product, Row};
 
-// Ten fitted cells, that of pin 23 first: the masks of each cell's products in their order, how many they are, the cell's kind (0 unused, 1 combinational,
-// 2 registered) and its S0.
+// What a cell is used for.
+#[derive(Clone, Copy, Debug, PartialEq, Eq)]
+pub enum Kind {
+    Unused = 0,
+    Combinational = 1,
+    Registered = 2,
+}
+
+// Ten fitted cells, that of pin 23 first: the masks of each cell's products in their order, how many they are, the cell's kind and its S0.
+// Kept: four arrays by cell, and no array of cells: `map_of` of specs/Map, `Fits` and the theorem `behaves` of behave speak of these lists.
 #[derive(Clone, Copy)]
 pub struct Cells {
     pub masks: [[Product; 16]; 10],
     pub counts: [u8; 10],
-    pub kinds: [u8; 10],
+    pub kinds: [Kind; 10],
     pub s0s: [u8; 10],
 }
 
@@ -22,7 +31,7 @@ impl Cells {
     // Writes the whole map.
     pub fn write_map(&self, map: &mut [u8])
         requires { length map.old ≡ 5892 }
-        ensures { map.new ≡ map_of self.now.masks self.now.counts self.now.kinds self.now.s0s }
+        ensures { map.new ≡ map_of self.now.masks self.now.counts (numbers self.now.kinds) self.now.s0s }
     {
         self.write_rows(map);
         for i in 5808..5892 {
@@ -33,7 +42,7 @@ impl Cells {
     // Writes all rows.
     fn write_rows(&self, map: &mut [u8])
         requires { length map.old ≡ 5892 }
-        ensures { Begun (row_fuse self.now.masks self.now.counts self.now.kinds) map.new 5808 }
+        ensures { Begun (row_fuse self.now.masks self.now.counts (numbers self.now.kinds)) map.new 5808 }
     {
         for r in 0..132 {
             write_row(map, r, &self.row_at(r));
@@ -44,14 +53,14 @@ impl Cells {
     #[tactic(auto, using(crate::proofs::Writing::few_cells, crate::proofs::Writing::row_begins, crate::proofs::Writing::row_near), unfolding(crate::specs::Map::row_at, crate::specs::Map::cell_row))]
     fn row_at(&self, r: usize) -> Row
         requires { r < 132 }
-        ensures { result.fuses ≡ row_at self.now.masks self.now.counts self.now.kinds r }
+        ensures { result.fuses ≡ row_at self.now.masks self.now.counts (numbers self.now.kinds) r }
     {
         if r == 0 || r == 131 {
             return Row::dead();
         }
         let k = cell_at(r);
         let a = r - device::enable(k) as usize;
-        if self.kinds[k] == 0 {
+        if self.kinds[k] == Kind::Unused {
             Row::dead()
         } else if a == 0 {
             Row::open()
@@ -64,7 +73,7 @@ impl Cells {
 
     // The fuse that stands j behind the rows.
     fn last_fuse(&self, j: usize) -> u8
-        ensures { result ≡ pick (ltb j 20) (switch_fuse self.now.kinds self.now.s0s j) 0 }
+        ensures { result ≡ pick (ltb j 20) (switch_fuse (numbers self.now.kinds) self.now.s0s j) 0 }
     {
         if 20 <= j {
             0
@@ -78,9 +87,9 @@ impl Cells {
     // S0 of cell k.
     fn s0_fuse(&self, k: usize) -> u8
         requires { k < 10 }
-        ensures { result ≡ s0_fuse self.now.kinds self.now.s0s k }
+        ensures { result ≡ s0_fuse (numbers self.now.kinds) self.now.s0s k }
     {
-        if self.kinds[k] == 0 || self.s0s[k] == 1 {
+        if self.kinds[k] == Kind::Unused || self.s0s[k] == 1 {
             1
         } else {
             0
@@ -90,41 +99,21 @@ impl Cells {
     // S1 of cell k.
     fn s1_fuse(&self, k: usize) -> u8
         requires { k < 10 }
-        ensures { result ≡ s1_fuse self.now.kinds k }
+        ensures { result ≡ s1_fuse (numbers self.now.kinds) k }
     {
-        if self.kinds[k] == 2 { 0 } else { 1 }
+        if self.kinds[k] == Kind::Registered {
+            0
+        } else {
+            1
+        }
     }
-}
-
-// Writes the whole map of ten cells.
-pub fn write_map(
-    masks: [[Product; 16]; 10],
-    counts: [u8; 10],
-    kinds: [u8; 10],
-    s0s: [u8; 10],
-    map: &mut [u8],
-)
-    requires { length map.old ≡ 5892 }
-    ensures { map.new ≡ map_of masks counts kinds s0s }
-{
-    let cells = Cells {
-        masks,
-        counts,
-        kinds,
-        s0s,
-    };
-    cells.write_map(map);
 }
 
 // The cell that row r belongs to.
 fn cell_at(r: usize) -> usize
     ensures { result ≡ cell_at r }
 {
-    let mut n = 0;
-    for k in 0..9 {
-        n += basics::byte_of(device::enable(k + 1) as usize <= r) as usize;
-    }
-    n
+    (1..10).filter(|&k| device::enable(k) as usize <= r).count()
 }
 
 // Writes row r.
@@ -137,13 +126,14 @@ fn write_row(map: &mut [u8], r: usize, row: &Row)
 }
 
 // The factors of the first n products together.
+#[tactic(auto, using(crate::proofs::Summing::step))]
 pub fn factors(masks: [Product; 16], n: usize) -> u32
     requires { n ≤ 16 }
     ensures { result ≡ picks (take n masks) }
 {
     let mut sum = 0;
-    for i in 0..n {
-        sum += ((masks[i] % 4294967296) as u32).count_ones();
+    for mask in &masks[..n] {
+        sum += ((mask % 4294967296) as u32).count_ones();
     }
     sum
 }

@@ -150,12 +150,6 @@ pub plain_next : (ns : List ℕ) (i : ℕ) → i < length ns → plain_n (drop i
 unfolding plain_n
 plain_next ns i h = ap plain_n (drop-cons ns i 0 h) ∙ ap (λ (k : ℕ). not (is_reg (get_or ns i 0)) && plain_n (drop k ns)) (sym (add-one i))
 
-pub plain_stop : (ns : List ℕ) (i : ℕ) → i < length ns → plain_n (drop i ns) ≡ plain_n ns → is_reg (get_or ns i 0) ≡ true → false ≡ plain_n ns
-plain_stop ns i h c e = sym (sym c ∙ plain_next ns i h ∙ ap (λ (b : Bool). not b && plain_n (drop (i + 1) ns)) e)
-
-pub plain_on_lem : (ns : List ℕ) (i : ℕ) → i < length ns → plain_n (drop i ns) ≡ plain_n ns → is_reg (get_or ns i 0) ≡ false → plain_n (drop (i + 1) ns) ≡ plain_n ns
-plain_on_lem ns i h c e = sym (plain_next ns i h ∙ ap (λ (b : Bool). not b && plain_n (drop (i + 1) ns)) e) ∙ c
-
-pub plain_end : (ns : List ℕ) (i : ℕ) → length ns ≤ i → plain_n (drop i ns) ≡ plain_n ns → true ≡ plain_n ns
+pub plain_none : (ns : List ℕ) (i : ℕ) → length ns ≤ i → plain_n (drop i ns) ≡ true
 unfolding plain_n
-plain_end ns i h c = ap plain_n (sym (drop_of_length-le ns h)) ∙ c
+plain_none ns i h = ap plain_n (drop_of_length-le ns h)

@@ -12,7 +12,7 @@ ghost use Rattle.circuit.specs.Pins.{role_of};
 ghost use Rattle.circuit.specs.Roles.{role_number};
 ghost use Rattle.circuit.specs.StageFive.{misassigned, misplaced, looped, stands_beside, positioned_right, mispositioned, first_below, stage_five};
 ghost use Rattle.circuit.specs.StageFive.Verdict.{fine, refused};
-ghost use Rattle.circuit.specs.Judged.{seen, IsFirst};
+ghost use Rattle.circuit.specs.Judged.{seen, IsFirst, AsBytes};
 
 use basics::refusal::{Reason, Refusal};
 use trees::{Class, Node};
@@ -29,6 +29,18 @@ pub fn find<F: Fn(usize) -> bool>(test: F) -> Option<usize>
         }
     }
     None
+}
+
+// A test's answers at the numbers below N, as bytes.
+pub fn bits<const N: usize, F: Fn(usize) -> bool>(test: F) -> [u8; N]
+    requires { (i : ℕ) → i < N → F.pre test i }
+    ensures { AsBytes (F.post test) N result }
+{
+    let mut bits = [0u8; N];
+    for i in 0..N {
+        bits[i] = basics::byte_of(test(i));
+    }
+    bits
 }
 
 // Assigned otherwise than its class wants.
@@ -53,6 +65,7 @@ fn first_misassigned(parts: &[u32]) -> Option<usize>
 }
 
 // No REG among the nodes.
+#[tactic(auto, using(crate::proofs::Placing::plain_next, crate::proofs::Placing::plain_none))]
 fn is_plain(nodes: &[u32]) -> bool
     ensures { result ≡ plain_n nodes.now }
 {

@@ -5,7 +5,10 @@ use mathlib.Core.List.{List}
 use Prim.Native.Nat.{ℕ, ◌≤◌}
 use lib.ListN.{length, replicate}
 use borrow.Author.Tests.{le-leb}
+use Rattle.std.specs.Prelude.{Result, Ok, Err}
 use Rattle.basics.specs.Choice.{pick}
+use Rattle.basics.specs.Refusal.{Numbered, answered}
+use Rattle.basics.specs.declared.refusal.Refusal.{Refusal}
 use Rattle.trees.specs.Layout.{elements_of}
 use Rattle.circuit.specs.StageFive.Verdict.{fine}
 use Rattle.outputs.specs.Outputs.{stage_six, map_for}
@@ -13,8 +16,6 @@ use Rattle.outmap.specs.Sixth.{after}
 use Rattle.outmap.proofs.Turns.{after_new}
 use Rattle.fusetext.specs.File.{is_map, file_of}
 use Rattle.fusetext.specs.Outcome.{gives, refuses, left}
-use Rattle.fusewrite.specs.declared.Written.{Written}
-use Rattle.fusewrite.specs.declared.Written.TheVariants.{File as Wrote, Refused as NotWritten}
 use Rattle.fusewrite.specs.Writing.{write_of, written_of, Writes}
 use Rattle.texts.specs.Stages.{unless}
 use Rattle.texts.specs.Calls.{filed, Does}
@@ -27,16 +28,16 @@ use Rattle.compilecall.specs.Compiling.{compiled_as}
 -- ---- the writer
 
 -- the writer's answer as the compiler's
-abbrev pub passed_on : Written → Compiled
-passed_on (Wrote n) = File n
-passed_on (NotWritten n p) = Refused n p
+abbrev pub passed_on : Result ℕ Numbered → Compiled
+passed_on (Ok n) = File n
+passed_on (Err r) = Refused r.number r.place
 
-pub writes_answer : (map before after : List ℕ) (w : Written) → is_map map ≡ true → 7154 ≤ length before → Writes map before w after → passed_on w ≡ compiled_as (gives (file_of map))
+pub writes_answer : (map before after : List ℕ) (w : Result ℕ Refusal) → is_map map ≡ true → 7154 ≤ length before → Writes map before w after → passed_on (answered w) ≡ compiled_as (gives (file_of map))
 unfolding write_of
 writes_answer map before after w m h c =
     ap passed_on c.answers ∙ ap₂ (λ (a b : Bool). passed_on (written_of (pick a (pick b (gives (file_of map)) (refuses 13 0)) (refuses 31 0)))) m (le-leb _ _ h)
 
-pub writes_file : (map before after : List ℕ) (w : Written) → is_map map ≡ true → 7154 ≤ length before → Writes map before w after → after ≡ left (gives (file_of map)) before
+pub writes_file : (map before after : List ℕ) (w : Result ℕ Refusal) → is_map map ≡ true → 7154 ≤ length before → Writes map before w after → after ≡ left (gives (file_of map)) before
 unfolding write_of
 writes_file map before after w m h c =
     c.leaves ∙ ap₂ (λ (a b : Bool). left (pick a (pick b (gives (file_of map)) (refuses 13 0)) (refuses 31 0)) before) m (le-leb _ _ h)

@@ -12,9 +12,7 @@ ghost use Rattle.texts.specs.Stages.{unless, whole_of};
 ghost use Rattle.texts.specs.Calls.{filed, Does};
 ghost use Rattle.compilecall.specs.Compiling.{compiled_as, Compiles};
 
-use fusewrite::Written;
 use lola::Told;
-use outmap::Sixth;
 
 // The file's length, or a refusal.
 #[derive(Clone, Copy)]
@@ -31,8 +29,11 @@ fn put_file(map: &[u8], out: &mut [u8]) -> Compiled
     ensures out_after { out.new ≡ left (gives (file_of map.now)) out.old }
 {
     match fusewrite::write(map, out) {
-        Written::File { len } => Compiled::File { len },
-        Written::Refused { number, place } => Compiled::Refused { number, place },
+        Ok(len) => Compiled::File { len },
+        Err(r) => Compiled::Refused {
+            number: r.reason.number(),
+            place: r.place,
+        },
     }
 }
 
@@ -46,8 +47,11 @@ fn compile_parts(parts: &[u32], out: &mut [u8], room: &mut [u8]) -> Compiled
     let mut map = [0u8; 5892];
     let mut facts = [0u32; 20];
     match outmap::map_outputs(parts, room, &mut map, &mut facts) {
-        Sixth::Fine => put_file(&map, out),
-        Sixth::Refused { number, place } => Compiled::Refused { number, place },
+        Ok(()) => put_file(&map, out),
+        Err(refusal) => Compiled::Refused {
+            number: refusal.reason.number(),
+            place: refusal.place,
+        },
     }
 }
 

@@ -6,7 +6,10 @@ use mathlib.Core.List.{List, []}
 use Prim.Native.Nat.{ℕ, ◌<◌}
 use native.Mathlib.Omega.{arith}
 use lib.ListN.{length, replicate}
+use Rattle.std.specs.Prelude.{Result, Ok, Err}
 use Rattle.basics.specs.Choice.{pick}
+use Rattle.basics.specs.Refusal.{Numbered, number_of as reason_number}
+use Rattle.basics.specs.declared.refusal.Refusal.{Refusal as Refused}
 use Rattle.fusetext.specs.Outcome.{Outcome, gives, refuses, left}
 use Rattle.texts.specs.Calls.{compiled_of}
 use Rattle.compilecall.specs.declared.Compiled.{Compiled}
@@ -15,14 +18,10 @@ use Rattle.compilecall.specs.Compiling.{compiled_as, Compiles}
 use Rattle.fitcall.specs.declared.Fitted.{Fitted}
 use Rattle.fitcall.specs.declared.Fitted.TheVariants.{Lines, Refused as NotLined}
 use Rattle.fitcall.specs.Fitting.{fitted_of, fitted_as, Fits}
-use Rattle.question.specs.declared.Asked.TheVariants.{Refused as Refuses}
+use Rattle.question.specs.Question.Asked.{Refused as Refuses}
 use Rattle.askcall.specs.declared.Graded.TheVariants.{Refused as NotGraded}
 use Rattle.askcall.specs.Asking.{graded_of, Asks}
-use Rattle.fuseread.specs.declared.Reading.{Reading}
-use Rattle.fuseread.specs.declared.Reading.TheVariants.{Map, Refused as NotRead}
 use Rattle.fuseread.specs.Reading.{read_into, reading_of, Reads}
-use Rattle.fusewrite.specs.declared.Written.{Written}
-use Rattle.fusewrite.specs.declared.Written.TheVariants.{File as Wrote, Refused as NotWritten}
 use Rattle.fusewrite.specs.Writing.{write_of, written_of, Writes}
 use Rattle.gal.specs.Refuse.{no_map, outside, no_values}
 use Rattle.gal.specs.Model.{number_of, place_of, refusal, answered, modelled}
@@ -67,13 +66,9 @@ abbrev of_fitted : Fitted → Outcome
 of_fitted (Lines n) = gives []
 of_fitted (NotLined n p) = refuses n p
 
-abbrev of_reading : Reading → Outcome
-of_reading Map = gives []
-of_reading (NotRead n p) = refuses n p
-
-abbrev of_written : Written → Outcome
-of_written (Wrote n) = gives []
-of_written (NotWritten n p) = refuses n p
+abbrev of_result : {A : Type 0} → Result A Numbered → Outcome
+of_result (Ok a) = gives []
+of_result (Err r) = refuses r.number r.place
 
 -- ---- THE THEOREMS, for each call
 
@@ -93,13 +88,13 @@ pub ask_refuses : (text : List ℕ) (pin product : ℕ) (room : List ℕ) (n p :
     → (graded_of text pin product (length room) ≡ Refuses n p) × (y ≡ replicate (length room) 0)
 ask_refuses text pin product room n p y c = (sym c.answers, c.clears)
 
-pub read_refuses : (file map : List ℕ) (n p : ℕ) (x : List ℕ) → Reads file map (NotRead n p) x → Refusal (read_into file (length map)) n p map x
-read_refuses file map n p x c =
-    refusal_of reading_of of_reading (λ l. refl) (λ n p. refl) (read_into file (length map)) n p map x c.answers c.leaves
+pub read_refuses : (file map : List ℕ) (r : Refused) (x : List ℕ) → Reads file map (Err r) x → Refusal (read_into file (length map)) (reason_number r.reason) r.place map x
+read_refuses file map r x c =
+    refusal_of reading_of of_result (λ l. refl) (λ n p. refl) (read_into file (length map)) (reason_number r.reason) r.place map x c.answers c.leaves
 
-pub write_refuses : (map out : List ℕ) (n p : ℕ) (x : List ℕ) → Writes map out (NotWritten n p) x → Refusal (write_of map (length out)) n p out x
-write_refuses map out n p x c =
-    refusal_of written_of of_written (λ l. refl) (λ n p. refl) (write_of map (length out)) n p out x c.answers c.leaves
+pub write_refuses : (map out : List ℕ) (r : Refused) (x : List ℕ) → Writes map out (Err r) x → Refusal (write_of map (length out)) (reason_number r.reason) r.place out x
+write_refuses map out r x c =
+    refusal_of written_of of_result (λ l. refl) (λ n p. refl) (write_of map (length out)) (reason_number r.reason) r.place out x c.answers c.leaves
 
 -- the model is lent nothing to write to: a refusal, one of 31, 30 and 32, has place 0 and answers 0 for all pins and bits
 pub model_refuses : (map bits pins : List ℕ) → 0 < number_of (modelled map bits pins).verdict

@@ -4,7 +4,7 @@
 
 ghost use Rattle.std.specs.Prelude.{◌-◌, ◌<◌, ◌≤◌, length, IfOk};
 
-use cells::Cells;
+use cells::{Cells, Kind};
 use fit::Fitted;
 use std::io;
 use std::io::Write;
@@ -271,14 +271,17 @@ fn put_cells<W: Write>(to: &mut W, cells: &[Option<Cell>; 10]) -> io::Result<()>
 fn written_cells(cells: &[Option<Cell>; 10]) -> Cells {
     let mut masks = [[0; 16]; 10];
     let mut counts = [0; 10];
-    // Kept: `Cells` and the definition `map_of` take kinds as numbers, 0 for a cell that is not in use, 1 combinational, 2 registered.
-    let mut kinds = [0; 10];
+    let mut kinds = [Kind::Unused; 10];
     let mut s0s = [0; 10];
     for k in 0..10 {
         if let Some(Cell { registered, fitted }) = cells[k] {
             masks[k] = fitted.masks;
             counts[k] = (fitted.n % 256) as u8;
-            kinds[k] = if registered { 2 } else { 1 };
+            kinds[k] = if registered {
+                Kind::Registered
+            } else {
+                Kind::Combinational
+            };
             s0s[k] = basics::byte_of(fitted.s0);
         }
     }

@@ -13,7 +13,6 @@ ghost use Rattle.texts.specs.Calls.{Does};
 ghost use Rattle.fitcall.specs.Fitting.{lined, fitted_as, Fits};
 
 use lola::Told;
-use outmap::Sixth;
 
 // The length of the lines, or a refusal.
 #[derive(Clone, Copy)]
@@ -44,8 +43,11 @@ fn fit_parts(parts: &[u32], out: &mut [u8], room: &mut [u8]) -> Fitted
     let mut map = [0u8; 5892];
     let mut facts = [0u32; 20];
     match outmap::map_outputs(parts, room, &mut map, &mut facts) {
-        Sixth::Fine => put_counted(&map, &facts, out),
-        Sixth::Refused { number, place } => Fitted::Refused { number, place },
+        Ok(()) => put_counted(&map, &facts, out),
+        Err(refusal) => Fitted::Refused {
+            number: refusal.reason.number(),
+            place: refusal.place,
+        },
     }
 }
 

@@ -85,6 +85,7 @@ fn put_line_if(
 }
 
 // The lines of a map into out, and how long they are: of each enabled cell, pins rising. Facts are the products of the ten cells, and then their factors.
+// Kept: products and factors are two lists in one slice: `lines_by` of specs/Lines reads them so, and the theorems of fitlaws and fitcall speak through it.
 pub fn put_lines(map: &[u8], facts: &[u32], out: &mut [u8]) -> usize
     requires map_len { length map.now ≡ 5892 }
     requires facts_len { length facts.now ≡ 20 }

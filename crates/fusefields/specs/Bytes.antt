@@ -1,6 +1,7 @@
 -- Kinds of bytes, the longest front of one kind, and numbers (document 01, 'The fuse file', Reading). Assumes nothing.
-use Rattle.std.specs.Prelude.{◌≡◌, ◌<◌, length, List, [], ◌∷◌, Bool, true, false, not, ℕ, ◌+◌, ◌-◌, ◌*◌, get_or, leb, ltb, eqb}
+use Rattle.std.specs.Prelude.{◌≡◌, length, List, [], ◌∷◌, Bool, true, false, not, ℕ, ◌+◌, ◌-◌, ◌*◌, get_or, leb, ltb, eqb}
 use Rattle.basics.specs.Choice.{pick}
+use Rattle.fusetext.specs.Put.{Computes}
 
 -- decision 37: the four blanks of the language, here by their codes: space 32, tab 9, CR 13, LF 10
 unfoldable pub blank : ℕ → Bool
@@ -38,11 +39,7 @@ unfoldable pub past : (ℕ → Bool) → List ℕ → List ℕ
 past p [] = []
 past p (x ∷ xs) = pick (p x) (past p xs) (x ∷ xs)
 
--- a test of bytes, known by what it may answer, computes p
-abbrev pub Computes : (ℕ → Bool → Type 0) → (ℕ → Bool) → Type 0
-Computes R p = (x : ℕ) (b : Bool) → x < 256 → R x b → b ≡ p x
-
--- n is the length of the longest front that passes such a test, whatever it computes
+-- n is the length of the longest front that passes a test, known by what it may answer, whatever it computes
 abbrev pub CountsFront : (ℕ → Bool → Type 0) → List ℕ → ℕ → Type 0
 CountsFront R s n = (p : ℕ → Bool) → Computes R p → n ≡ length (front p s)
 

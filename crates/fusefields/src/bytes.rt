@@ -3,35 +3,35 @@ ghost use Rattle.std.specs.Prelude.{◌≡◌, ℕ, ◌+◌, ◌-◌, ◌≤◌,
 ghost use Rattle.fusefields.specs.Bytes.{blank, digit, fuse, fuse_or_blank, hexit, not_star, not_end, CountsFront, value, hex_of, hex4_of, fuses};
 ghost use Rattle.fusetext.specs.Put.{Wrote};
 
-#[tactic(auto, using(std::proofs::lemmas::Grind::common_steps), unfolding(crate::specs::Bytes::blank))]
+#[tactic(auto, unfolding(crate::specs::Bytes::blank))]
 pub fn is_blank(b: u8) -> bool
     ensures { result ≡ blank b }
 {
     matches!(b, b' ' | b'\t' | b'\r' | b'\n')
 }
 
-#[tactic(auto, using(std::proofs::lemmas::Grind::common_steps), unfolding(crate::specs::Bytes::digit))]
+#[tactic(auto, unfolding(crate::specs::Bytes::digit))]
 pub fn is_digit(b: u8) -> bool
     ensures { result ≡ digit b }
 {
     matches!(b, b'0'..=b'9')
 }
 
-#[tactic(auto, using(std::proofs::lemmas::Grind::common_steps), unfolding(crate::specs::Bytes::fuse))]
+#[tactic(auto, unfolding(crate::specs::Bytes::fuse))]
 pub fn is_fuse(b: u8) -> bool
     ensures { result ≡ fuse b }
 {
     matches!(b, b'0' | b'1')
 }
 
-#[tactic(auto, using(std::proofs::lemmas::Grind::common_steps), unfolding(crate::specs::Bytes::fuse_or_blank))]
+#[tactic(auto, unfolding(crate::specs::Bytes::fuse_or_blank))]
 pub fn is_fuse_or_blank(b: u8) -> bool
     ensures { result ≡ fuse_or_blank b }
 {
     is_fuse(b) || is_blank(b)
 }
 
-#[tactic(auto, using(std::proofs::lemmas::Grind::common_steps), unfolding(crate::specs::Bytes::hexit, crate::specs::Bytes::digit))]
+#[tactic(auto, unfolding(crate::specs::Bytes::hexit, crate::specs::Bytes::digit))]
 pub fn is_hexit(b: u8) -> bool
     ensures { result ≡ hexit b }
 {
@@ -39,14 +39,14 @@ pub fn is_hexit(b: u8) -> bool
 }
 
 // Whether b is no `*`, and whether it is no byte 3.
-#[tactic(auto, using(std::proofs::lemmas::Grind::common_steps), unfolding(crate::specs::Bytes::not_star))]
+#[tactic(auto, unfolding(crate::specs::Bytes::not_star))]
 pub fn is_not_star(b: u8) -> bool
     ensures { result ≡ not_star b }
 {
     b != b'*'
 }
 
-#[tactic(auto, using(std::proofs::lemmas::Grind::common_steps), unfolding(crate::specs::Bytes::not_end))]
+#[tactic(auto, unfolding(crate::specs::Bytes::not_end))]
 pub fn is_not_end(b: u8) -> bool
     ensures { result ≡ not_end b }
 {
@@ -80,7 +80,7 @@ pub fn value_of(s: &[u8], most: usize) -> usize
 }
 
 // The value of a hex digit.
-#[tactic(auto, using(std::proofs::lemmas::Grind::common_steps), unfolding(crate::specs::Bytes::hex_of))]
+#[tactic(auto, unfolding(crate::specs::Bytes::hex_of))]
 fn hex_of(b: u8) -> u32
     ensures { (result ≡ hex_of b) × (result ≤ 255) }
 {
@@ -93,7 +93,7 @@ fn hex_of(b: u8) -> u32
 }
 
 // The value of four hex digits.
-#[tactic(auto, using(std::proofs::lemmas::Grind::common_steps), unfolding(crate::specs::Bytes::hex4_of))]
+#[tactic(auto, unfolding(crate::specs::Bytes::hex4_of))]
 pub fn hex4_of(xs: &[u8]) -> u32
     requires { 4 ≤ length xs.now }
     ensures { result ≡ hex4_of xs.now }

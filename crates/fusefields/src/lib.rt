@@ -30,7 +30,7 @@ pub struct Seen {
 }
 
 // Whether xs is one 0 or 1.
-#[tactic(auto, using(std::proofs::lemmas::Grind::common_steps), unfolding(crate::specs::Fields::one))]
+#[tactic(auto, unfolding(crate::specs::Fields::one))]
 fn is_one(xs: &[u8]) -> bool
     ensures { result ≡ one xs.now }
 {
@@ -38,7 +38,7 @@ fn is_one(xs: &[u8]) -> bool
 }
 
 // Whether xs is the number n.
-#[tactic(auto, using(std::proofs::lemmas::Grind::common_steps), unfolding(crate::specs::Fields::number_fault))]
+#[tactic(auto, unfolding(crate::specs::Fields::number_fault))]
 fn check_number(xs: &[u8], n: usize) -> Result<(), Reason>
     requires { n < 10000 }
     ensures { fault_of result ≡ number_fault xs.now n }
@@ -53,7 +53,7 @@ fn check_number(xs: &[u8], n: usize) -> Result<(), Reason>
 }
 
 // Behind an F.
-#[tactic(auto, using(std::proofs::lemmas::Grind::common_steps, crate::proofs::Judges::one_length, crate::proofs::Judges::one_code), unfolding(crate::specs::Fields::judge_f))]
+#[tactic(auto, using(crate::proofs::Judges::one_length, crate::proofs::Judges::one_code), unfolding(crate::specs::Fields::judge_f))]
 fn judge_f(s: Seen, xs: &[u8]) -> Result<Seen, Reason>
     ensures { judged result ≡ judge_f s xs.now }
 {
@@ -67,7 +67,7 @@ fn judge_f(s: Seen, xs: &[u8]) -> Result<Seen, Reason>
 }
 
 // Behind a G.
-#[tactic(auto, using(std::proofs::lemmas::Grind::common_steps), unfolding(crate::specs::Fields::judge_g))]
+#[tactic(auto, unfolding(crate::specs::Fields::judge_g))]
 fn judge_g(s: Seen, xs: &[u8]) -> Result<Seen, Reason>
     ensures { judged result ≡ judge_g s xs.now }
 {
@@ -78,7 +78,7 @@ fn judge_g(s: Seen, xs: &[u8]) -> Result<Seen, Reason>
 }
 
 // Behind a C.
-#[tactic(auto, using(std::proofs::lemmas::Grind::common_steps), unfolding(crate::specs::Fields::judge_c))]
+#[tactic(auto, unfolding(crate::specs::Fields::judge_c))]
 fn judge_c(s: Seen, xs: &[u8]) -> Result<Seen, Reason>
     ensures { judged result ≡ judge_c s xs.now }
 {
@@ -92,7 +92,7 @@ fn judge_c(s: Seen, xs: &[u8]) -> Result<Seen, Reason>
 }
 
 // Behind QF.
-#[tactic(auto, using(std::proofs::lemmas::Grind::common_steps), unfolding(crate::specs::Fields::judge_qf))]
+#[tactic(auto, unfolding(crate::specs::Fields::judge_qf))]
 fn judge_qf(s: Seen, xs: &[u8]) -> Result<Seen, Reason>
     ensures { judged result ≡ judge_qf s xs.now }
 {
@@ -104,7 +104,7 @@ fn judge_qf(s: Seen, xs: &[u8]) -> Result<Seen, Reason>
 }
 
 // Behind QP.
-#[tactic(auto, using(std::proofs::lemmas::Grind::common_steps), unfolding(crate::specs::Fields::judge_qp))]
+#[tactic(auto, unfolding(crate::specs::Fields::judge_qp))]
 fn judge_qp(s: Seen, xs: &[u8]) -> Result<Seen, Reason>
     ensures { judged result ≡ judge_qp s xs.now }
 {
@@ -128,7 +128,7 @@ fn judge_q(s: Seen, xs: &[u8]) -> Result<Seen, Reason>
 }
 
 // A field that is no L, by its letter.
-#[tactic(auto, using(std::proofs::lemmas::Grind::common_steps), unfolding(crate::specs::Fields::judge_plain))]
+#[tactic(auto, unfolding(crate::specs::Fields::judge_plain))]
 fn judge_plain(s: Seen, x: u8, xs: &[u8]) -> Result<Seen, Reason>
     ensures { judged result ≡ judge_plain s x xs.now }
 {
@@ -143,7 +143,7 @@ fn judge_plain(s: Seen, x: u8, xs: &[u8]) -> Result<Seen, Reason>
 }
 
 // The contents of an L field, for the fuses from n on: they go into cells.
-#[tactic(auto, using(std::proofs::lemmas::Grind::common_steps), unfolding(crate::specs::Fields::listed_fuses))]
+#[tactic(auto, unfolding(crate::specs::Fields::listed_fuses))]
 fn list_fuses(n: usize, xs: &[u8], cells: &mut [u8]) -> Result<(), Reason>
     requires { (n ≤ 10000) × (length cells.old ≡ 5892) }
     ensures { Says (listed_fuses n xs.now) (fault_of result) cells.old cells.new }
@@ -159,7 +159,7 @@ fn list_fuses(n: usize, xs: &[u8], cells: &mut [u8]) -> Result<(), Reason>
 }
 
 // Blanks, and the contents.
-#[tactic(auto, using(std::proofs::lemmas::Grind::common_steps, crate::proofs::Fronts::part_past), unfolding(crate::specs::Fields::listed_rest))]
+#[tactic(auto, using(crate::proofs::Fronts::part_past), unfolding(crate::specs::Fields::listed_rest))]
 fn list_rest(n: usize, xs: &[u8], cells: &mut [u8]) -> Result<(), Reason>
     requires { (n ≤ 10000) × (length cells.old ≡ 5892) }
     ensures { Says (listed_rest n xs.now) (fault_of result) cells.old cells.new }
@@ -172,7 +172,7 @@ fn list_rest(n: usize, xs: &[u8], cells: &mut [u8]) -> Result<(), Reason>
 }
 
 // What stands behind an L.
-#[tactic(auto, using(std::proofs::lemmas::Grind::common_steps, crate::proofs::Fronts::part_past, crate::proofs::Fronts::part_front, crate::proofs::Judges::listed_capped), unfolding(crate::specs::Fields::listed))]
+#[tactic(auto, using(crate::proofs::Fronts::part_past, crate::proofs::Fronts::part_front, crate::proofs::Judges::listed_capped), unfolding(crate::specs::Fields::listed))]
 fn list(xs: &[u8], cells: &mut [u8]) -> Result<(), Reason>
     requires { length cells.old ≡ 5892 }
     ensures { Says (listed xs.now) (fault_of result) cells.old cells.new }
@@ -185,7 +185,7 @@ fn list(xs: &[u8], cells: &mut [u8]) -> Result<(), Reason>
 }
 
 // Behind an L.
-#[tactic(auto, using(std::proofs::lemmas::Grind::common_steps), unfolding(crate::specs::Fields::judge_l))]
+#[tactic(auto, unfolding(crate::specs::Fields::judge_l))]
 fn judge_l(s: Seen, xs: &[u8], cells: &mut [u8]) -> Result<Seen, Reason>
     requires { length cells.old ≡ 5892 }
     ensures { step_of (judged result) cells.new ≡ judge_l s xs.now cells.old }

@@ -1,17 +1,16 @@
 -- The outcomes of each step of reading, in the words of the tests that lead to them. Assumes nothing.
 use mathlib.Core.Path.{◌≡◌, refl, ap, ap₂, ◌∙◌}
-use mathlib.Core.List.{List, [], ◌∷◌}
+use mathlib.Core.List.{List, [], ◌∷◌, map}
 use mathlib.Core.Bool.{true, false}
 use Prim.Native.Nat.{ℕ, zero, suc, ◌+◌, ◌-◌, ◌≤◌, ◌<◌}
 use native.Mathlib.Omega.{arith}
-use lib.ListN.{length, take, drop, get_or, drop_of_length-le, length-drop}
+use lib.ListN.{length, take, drop, get_or, length-drop}
 use lib.Seq.{take_all, take-nil}
 use lib.Dec.{eqb}
 use borrow.Author.Tests.{le-leb, lt-leb, lt-ltb, le-ltb, eq-eqb, ne_eqb}
 use Rattle.basics.specs.Choice.{pick}
 use Rattle.std.specs.Option.{unwrap_or}
 use Rattle.std.specs.Prelude.{Option}
-use Rattle.basics.proofs.Lists.{drop_next}
 use Rattle.fusetext.specs.File.{bits}
 use Rattle.fusetext.specs.Outcome.{gives, refuses}
 use Rattle.fusefields.specs.Bytes.{blank, hexit, not_star, not_end, front}
@@ -20,13 +19,11 @@ use Rattle.fusefields.specs.declared.Seen.{Seen}
 use Rattle.fuseread.specs.Walk.{ended, fault, open_at, walk, pieces}
 use Rattle.fuseread.specs.Reading.{filled, fuse_sum_fits, last_sum_fits, summed, whole, ending, closing, unlisted, opened, read_of, read_into}
 
-pub filled_next : (f : ℕ) (s : List ℕ) (j : ℕ) → j < length s → filled f (drop j s) ≡ pick (eqb (get_or s j 0) 2) f (get_or s j 0) ∷ filled f (drop (j + 1) s)
+-- each fuse, or the default
+pub map_filled : (f : ℕ) (s : List ℕ) → map (λ x. pick (eqb x 2) f x) s ≡ filled f s
 unfolding filled
-filled_next f s j h = rw (drop_next s j h)
-
-pub filled_none : (f : ℕ) (s : List ℕ) (j : ℕ) → length s ≤ j → filled f (drop j s) ≡ []
-unfolding filled
-filled_none f s j h = rw (drop_of_length-le s {i = j} h)
+map_filled f [] = refl
+map_filled f (x ∷ xs) = ap {B = List ℕ} (λ l. pick (eqb x 2) f x ∷ l) (map_filled f xs)
 
 pub length_filled : (f : ℕ) (s : List ℕ) → length (filled f s) ≡ length s
 unfolding filled

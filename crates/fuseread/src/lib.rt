@@ -12,7 +12,7 @@ ghost use Rattle.fuseread.specs.Reading.{filled, fuse_sum_fits, last_sum_fits, s
 use basics::refusal::{Reason, Refusal};
 use fusefields::bytes::{hex4_of, is_blank, is_hexit, is_not_end, is_not_star, run};
 use fusefields::{Seen, judge};
-use fusetext::field::put_text;
+use fusetext::field::{put_each, put_text};
 use fusetext::scan::{is_bits, sum_of, weigh_of};
 
 // How many fuses a map has, and what stands for one that no L field listed.
@@ -74,14 +74,11 @@ fn fill(f: u8, src: &[u8], out: &mut [u8]) -> usize
     requires { length src.now ≤ length out.old }
     ensures { Wrote out.old 0 (filled f src.now) out.new result }
 {
-    for j in 0..src.len() {
-        out[j] = or_default(f, src[j]);
-    }
-    src.len()
+    put_each(src, |x| or_default(f, x), out, 0)
 }
 
 // Whether C's value, if there is one, agrees with the map.
-#[tactic(auto, using(std::proofs::lemmas::Grind::common_steps), unfolding(crate::specs::Reading::fuse_sum_fits))]
+#[tactic(auto, unfolding(crate::specs::Reading::fuse_sum_fits))]
 fn is_fuse_sum(c: Option<u32>, m: &[u8]) -> bool
     requires { (length m.now ≡ 5892) × Bits m.now }
     ensures { result ≡ fuse_sum_fits c m.now }
@@ -103,7 +100,7 @@ fn is_last_sum(s: &[u8], z: usize) -> bool
 }
 
 // The two sums.
-#[tactic(auto, using(std::proofs::lemmas::Grind::common_steps), unfolding(crate::specs::Reading::summed))]
+#[tactic(auto, unfolding(crate::specs::Reading::summed))]
 fn sums(s: &[u8], z: usize, c: Option<u32>, m: &[u8]) -> Result<(), Refusal>
     requires s_len_bound { (length s.now ≤ 65536) × (z + 5 ≤ length s.now) }
     requires m_len { (length m.now ≡ 5892) × Bits m.now }
@@ -119,7 +116,7 @@ fn sums(s: &[u8], z: usize, c: Option<u32>, m: &[u8]) -> Result<(), Refusal>
 }
 
 // What is missing, and the sums. The map goes into out.
-#[tactic(auto, using(std::proofs::lemmas::Grind::common_steps, crate::proofs::Endings::length_filled, fusetext::proofs::Puts::wrote_all, fusetext::proofs::Files::bits_all), unfolding(crate::specs::Reading::whole))]
+#[tactic(auto, using(crate::proofs::Endings::length_filled, fusetext::proofs::Puts::wrote_all, fusetext::proofs::Files::bits_all), unfolding(crate::specs::Reading::whole))]
 fn finish(s: &[u8], z: usize, seen: Seen, cells: &[u8], out: &mut [u8]) -> Result<(), Refusal>
     requires s_len_bound { (length s.now ≤ 65536) × (z + 5 ≤ length s.now) }
     requires cells_len { (length cells.now ≡ 5892) × (length out.old ≡ 5892) }
@@ -136,7 +133,7 @@ fn finish(s: &[u8], z: usize, seen: Seen, cells: &[u8], out: &mut [u8]) -> Resul
 }
 
 // Behind byte 3, which stands at z.
-#[tactic(auto, using(std::proofs::lemmas::Grind::common_steps, crate::proofs::Endings::to_end), unfolding(crate::specs::Reading::ending))]
+#[tactic(auto, using(crate::proofs::Endings::to_end), unfolding(crate::specs::Reading::ending))]
 fn close(s: &[u8], z: usize, seen: Seen, cells: &[u8], out: &mut [u8]) -> Result<(), Refusal>
     requires s_len_bound { (length s.now ≤ 65536) × (z < length s.now) }
     requires cells_len { (length cells.now ≡ 5892) × (length out.old ≡ 5892) }
@@ -159,7 +156,7 @@ fn close(s: &[u8], z: usize, seen: Seen, cells: &[u8], out: &mut [u8]) -> Result
 }
 
 // The fields, and what follows them. Byte 3 stands at z, or z is the length; the heading has h bytes.
-#[tactic(auto, using(std::proofs::lemmas::Grind::common_steps, crate::proofs::Endings::closing_ending, crate::proofs::Endings::closing_cut, crate::proofs::Endings::closing_fault, crate::proofs::Endings::closing_open, crate::proofs::Endings::closing_open_cut))]
+#[tactic(auto, using(crate::proofs::Endings::closing_ending, crate::proofs::Endings::closing_cut, crate::proofs::Endings::closing_fault, crate::proofs::Endings::closing_open, crate::proofs::Endings::closing_open_cut))]
 fn after_heading(
     s: &[u8],
     z: usize,

@@ -1,6 +1,6 @@
 -- The laws of the parts of a fuse file: one element more of each, and how long they are. Assumes nothing.
-use mathlib.Core.Path.{◌≡◌, refl, ap, subst}
-use mathlib.Core.List.{List, [], ◌∷◌, ◌++◌}
+use mathlib.Core.Path.{◌≡◌, refl, ap, ap₂, subst}
+use mathlib.Core.List.{List, [], ◌∷◌, ◌++◌, map}
 use mathlib.Core.Bool.{Bool, true, false}
 use Prim.Native.Nat.{ℕ, zero, suc, ◌+◌, ◌*◌, ◌-◌, ◌≤◌, ◌<◌}
 use lib.ListN.{length, take, drop, get_or, drop_of_length-le, length-append, length-drop}
@@ -16,18 +16,32 @@ use Rattle.basics.proofs.Lists.{drop_next}
 use Rattle.fusetext.specs.Digits.{dec4, hex4}
 use Rattle.fusetext.specs.File.{digits, zeros, sum, part, listing, listing_if, rows, checking, opening, Bits, bits, is_map}
 
-pub digits_next : (s : List ℕ) (j : ℕ) → j < length s → digits (drop j s) ≡ (48 + get_or s j 0) ∷ digits (drop (j + 1) s)
+-- each byte as a function turns it, the next one and at the end
+pub map_next : (p : ℕ → ℕ) (s : List ℕ) (j y : ℕ) → j < length s → y ≡ p (get_or s j 0) → map p (drop j s) ≡ y ∷ map p (drop (j + 1) s)
+map_next p s j y h e = rw (drop_next s j h, e)
+
+pub map_none : (p : ℕ → ℕ) (s : List ℕ) (j : ℕ) → length s ≤ j → map p (drop j s) ≡ []
+map_none p s j h = rw (drop_of_length-le s {i = j} h)
+
+pub length_map : (p : ℕ → ℕ) (s : List ℕ) → length (map p s) ≡ length s
+length_map p [] = refl
+length_map p (x ∷ xs) = ap suc (length_map p xs)
+
+-- fuses as digits
+pub map_digits : (s : List ℕ) → Bits s → map (λ x. pick (eqb x 1) 49 48) s ≡ digits s
 unfolding digits
-digits_next s j h = rw (drop_next s j h)
+map_digits [] h = refl
+map_digits (x ∷ xs) h = ap₂ {A = ℕ} {B = List ℕ} (λ d l. d ∷ l) (one x (h 0)) (map_digits xs (λ i. h (suc i)))
+  where
+    one : (x : ℕ) → x ≤ 1 → pick (eqb x 1) 49 48 ≡ 48 + x
+    one zero h = refl
+    one (suc zero) h = refl
+    one (suc (suc x)) h = absurd (omega arith)
 
 pub length_digits : (s : List ℕ) → length (digits s) ≡ length s
 unfolding digits
 length_digits [] = refl
 length_digits (x ∷ xs) = ap suc (length_digits xs)
-
-pub digits_none : (s : List ℕ) (j : ℕ) → length s ≤ j → digits (drop j s) ≡ []
-unfolding digits
-digits_none s j h = rw (drop_of_length-le s {i = j} h)
 
 -- ---- the tests, as `all` makes them
 

@@ -1,6 +1,7 @@
 // Functions that write one field at a place, each with one contract: Wrote.
-ghost use Rattle.std.specs.Prelude.{◌≡◌, ℕ, ◌+◌, ◌≤◌, ◌<◌, length, get_or};
-ghost use Rattle.fusetext.specs.Put.{Wrote};
+ghost use Rattle.std.specs.Prelude.{◌≡◌, ℕ, ◌+◌, ◌≤◌, ◌<◌, length, get_or, eqb};
+ghost use Rattle.basics.specs.Choice.{pick};
+ghost use Rattle.fusetext.specs.Put.{Wrote, WroteEach};
 ghost use Rattle.fusetext.specs.Digits.{dec4, hex_digit, hex4};
 ghost use Rattle.fusetext.specs.File.{digits, listing, Bits};
 
@@ -14,18 +15,34 @@ pub fn put_text(src: &[u8], out: &mut [u8], at: usize) -> usize
     end
 }
 
+// The bytes of src, each as f turns it.
+pub fn put_each<F: Fn(u8) -> u8>(src: &[u8], f: F, out: &mut [u8], at: usize) -> usize
+    requires callable { F.IsAlwaysCallable f }
+    requires in_bounds { at + length src.now ≤ length out.old }
+    ensures { WroteEach (F.post f) out.old at src.now out.new result }
+{
+    let mut o = at;
+    for &x in src {
+        out[o] = f(x);
+        o += 1;
+    }
+    o
+}
+
+// The digit of a fuse: 1 for a 1, 0 for any other byte.
+pub fn digit_of(x: u8) -> u8
+    ensures { result ≡ pick (eqb x 1) 49 48 }
+{
+    if x == 1 { b'1' } else { b'0' }
+}
+
 // The fuses of src as digits.
 fn put_digits(src: &[u8], out: &mut [u8], at: usize) -> usize
     requires src_in_bounds { at + length src.now ≤ length out.old }
     requires bits { Bits src.now }
     ensures { Wrote out.old at (digits src.now) out.new result }
 {
-    let mut o = at;
-    for &fuse in src {
-        out[o] = b'0' + fuse;
-        o += 1;
-    }
-    o
+    put_each(src, digit_of, out, at)
 }
 
 // Four decimal digits.
@@ -42,7 +59,7 @@ fn put_dec4(n: usize, out: &mut [u8], at: usize) -> usize
     put_text(&text, out, at)
 }
 
-#[tactic(auto, using(std::proofs::lemmas::Grind::common_steps), unfolding(crate::specs::Digits::hex_digit))]
+#[tactic(auto, unfolding(crate::specs::Digits::hex_digit))]
 fn hex_digit(n: u8) -> u8
     requires { n < 16 }
     ensures { result ≡ hex_digit n }

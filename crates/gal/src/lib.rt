@@ -15,6 +15,7 @@ pub struct Answer {
 }
 
 // Every fuse of row r is v.
+// Kept: that a map has 5,892 fuses is a `requires` here and below, and no type: maps are slices that callers lend, and a narrower type would ask more of them.
 pub fn row_is(map: &[u8], r: usize, v: u8) -> bool
     requires map_len { length map.now ≡ 5892 }
     requires r_bound { r < 132 }

@@ -3,9 +3,10 @@
 #![tactic(auto)]
 
 pub use askcall::{Graded, ask};
+pub use basics::refusal::{Reason, Refusal};
 pub use compilecall::{Compiled, compile};
 pub use fitcall::{Fitted, fit};
-pub use fuseread::{Reading, read};
-pub use fusewrite::{Written, write};
+pub use fuseread::read;
+pub use fusewrite::write;
 pub use gal::Answer;
 pub use galmodel::model;

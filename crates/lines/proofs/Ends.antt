@@ -1,21 +1,18 @@
 -- Laws of lines of 0 and 1. Assumes nothing.
 use mathlib.Core.Path.{◌≡◌, refl, ap}
-use mathlib.Core.List.{List, [], ◌∷◌}
-use Prim.Native.Nat.{ℕ, suc, ◌+◌, ◌-◌, ◌≤◌, ◌<◌}
+use mathlib.Core.List.{List, [], ◌∷◌, map}
+use Prim.Native.Nat.{ℕ, suc, ◌-◌, ◌≤◌, ◌<◌}
 use native.Mathlib.Omega.{arith}
-use lib.ListN.{length, drop, get_or, drop_of_length-le}
+use lib.ListN.{length, get_or}
 use lib.Dec.{eqb}
 use Rattle.basics.specs.Choice.{pick}
-use Rattle.basics.proofs.Lists.{drop_next}
 use Rattle.lines.specs.Line.{line_length, fuses_in, shown}
 
-pub fuses_next : (s : List ℕ) (j : ℕ) → j < length s → fuses_in (drop j s) ≡ pick (eqb (get_or s j 0) 48) 0 (pick (eqb (get_or s j 0) 49) 1 2) ∷ fuses_in (drop (j + 1) s)
+-- each digit as a fuse
+pub map_fuses : (s : List ℕ) → map (λ x. pick (eqb x 48) 0 (pick (eqb x 49) 1 2)) s ≡ fuses_in s
 unfolding fuses_in
-fuses_next s j h = rw (drop_next s j h)
-
-pub fuses_none : (s : List ℕ) (j : ℕ) → length s ≤ j → fuses_in (drop j s) ≡ []
-unfolding fuses_in
-fuses_none s j h = rw (drop_of_length-le s {i = j} h)
+map_fuses [] = refl
+map_fuses (x ∷ xs) = ap {B = List ℕ} (λ l. pick (eqb x 48) 0 (pick (eqb x 49) 1 2) ∷ l) (map_fuses xs)
 
 pub length_fuses : (s : List ℕ) → length (fuses_in s) ≡ length s
 unfolding fuses_in
@@ -34,13 +31,11 @@ line_one [] h k e = absurd (omega arith)
 line_one (x ∷ []) h k e = let d : x ≡ 10 = e in rw d
 line_one (x ∷ (y ∷ s)) h k e = absurd (omega arith)
 
-pub shown_next : (s : List ℕ) (j : ℕ) → j < length s → shown (drop j s) ≡ pick (eqb (get_or s j 0) 1) 49 48 ∷ shown (drop (j + 1) s)
+-- and each fuse as a digit
+pub map_shown : (s : List ℕ) → map (λ x. pick (eqb x 1) 49 48) s ≡ shown s
 unfolding shown
-shown_next s j h = rw (drop_next s j h)
-
-pub shown_none : (s : List ℕ) (j : ℕ) → length s ≤ j → shown (drop j s) ≡ []
-unfolding shown
-shown_none s j h = rw (drop_of_length-le s {i = j} h)
+map_shown [] = refl
+map_shown (x ∷ xs) = ap {B = List ℕ} (λ l. pick (eqb x 1) 49 48 ∷ l) (map_shown xs)
 
 pub length_shown : (s : List ℕ) → length (shown s) ≡ length s
 unfolding shown

@@ -9,7 +9,7 @@ ghost use Rattle.lines.specs.Decimal.{decimal, refusal_line};
 ghost use Rattle.lines.specs.Line.{line_length, fuses_in, shown, shown_line};
 
 use basics::refusal::Refusal;
-use fusetext::field::put_text;
+use fusetext::field::{digit_of, put_each, put_text};
 
 // Kept: digits are written one by one, since `write!` would need a cursor over the lent bytes and an error for when they are full, where
 // this needs neither.
@@ -59,7 +59,7 @@ pub fn put_refused(refusal: Refusal, out: &mut [u8], at: usize) -> usize
 }
 
 // How long a line is without its LF, and without a CR before that.
-#[tactic(auto, using(std::proofs::lemmas::Grind::common_steps, crate::proofs::Ends::line_none, crate::proofs::Ends::line_one), unfolding(crate::specs::Line::line_length))]
+#[tactic(auto, using(crate::proofs::Ends::line_none, crate::proofs::Ends::line_one), unfolding(crate::specs::Line::line_length))]
 pub fn line_length(s: &[u8]) -> usize
     ensures { (result ≡ line_length s.now) × (result ≤ length s.now) }
 {
@@ -70,7 +70,6 @@ pub fn line_length(s: &[u8]) -> usize
     }
 }
 
-#[tactic(auto, using(std::proofs::lemmas::Grind::common_steps))]
 fn fuse_in(b: u8) -> u8
     ensures { result ≡ pick (eqb b 48) 0 (pick (eqb b 49) 1 2) }
 {
@@ -86,17 +85,7 @@ pub fn put_fuses_in(src: &[u8], out: &mut [u8]) -> usize
     requires { length src.now ≤ length out.old }
     ensures { Wrote out.old 0 (fuses_in src.now) out.new result }
 {
-    for j in 0..src.len() {
-        out[j] = fuse_in(src[j]);
-    }
-    src.len()
-}
-
-#[tactic(auto, using(std::proofs::lemmas::Grind::common_steps))]
-fn digit_of(x: u8) -> u8
-    ensures { result ≡ pick (eqb x 1) 49 48 }
-{
-    if x == 1 { b'1' } else { b'0' }
+    put_each(src, fuse_in, out, 0)
 }
 
 // The fuses of src as digits.
@@ -104,10 +93,7 @@ fn put_shown(src: &[u8], out: &mut [u8]) -> usize
     requires { length src.now ≤ length out.old }
     ensures { Wrote out.old 0 (shown src.now) out.new result }
 {
-    for j in 0..src.len() {
-        out[j] = digit_of(src[j]);
-    }
-    src.len()
+    put_each(src, digit_of, out, 0)
 }
 
 // The fuses of src as a line of digits.

@@ -7,27 +7,20 @@ ghost use Rattle.std.specs.Prelude.{◌<◌};
 use lola::Told;
 use std::io;
 use std::io::Write;
-use trees::at;
-
-// Prints an element's line.
-fn put_line<W: Write>(to: &mut W, pin: usize, class: &str, place: usize) -> io::Result<()> {
-    write!(to, "{pin} {class} {place}\n")
-}
+use trees::{CLASS_AT, PIN_AT, PLACE_AT, at};
 
 // The line of element i, where it has a pin.
 fn put_element<W: Write>(to: &mut W, parts: &[u32], i: usize) -> io::Result<()>
     requires { i < 64 }
 {
-    let class = at(parts, 2048 + i);
-    let place = at(parts, 2112 + i);
-    let pin = at(parts, 2432 + i);
-    if class == 1 {
-        return put_line(to, pin, "IN", place);
-    }
-    if class == 2 {
-        return put_line(to, pin, "OUT", place);
-    }
-    Ok(())
+    let class = match at(parts, CLASS_AT + i) {
+        1 => "IN",
+        2 => "OUT",
+        _ => return Ok(()),
+    };
+    let place = at(parts, PLACE_AT + i);
+    let pin = at(parts, PIN_AT + i);
+    writeln!(to, "{pin} {class} {place}")
 }
 
 fn put_elements<W: Write>(to: &mut W, parts: &[u32]) -> io::Result<()> {
@@ -37,17 +30,12 @@ fn put_elements<W: Write>(to: &mut W, parts: &[u32]) -> io::Result<()> {
     Ok(())
 }
 
-// Prints a refusal's line.
-fn refuse<W: Write>(to: &mut W, number: u8, place: usize) -> io::Result<()> {
-    write!(to, "{number} {place}\n")
-}
-
 // The answer to a text.
 fn answer<W: Write>(to: &mut W, text: &[u8]) -> io::Result<()> {
     let mut parts = [0u32; 2588];
     match lola::front(text, &mut parts) {
         Told::Fine => put_elements(to, &parts),
-        Told::Refused { number, place } => refuse(to, number, place),
+        Told::Refused { number, place } => writeln!(to, "{number} {place}"),
     }
 }
 

@@ -11,9 +11,8 @@ use Rattle.readers.specs.Readers.{expression_of}
 use Rattle.trees.specs.Layout.{Elements, elements_of}
 use Rattle.meaning.specs.Circuit.{out_at, runs}
 use Rattle.pins.specs.Variables.{count_of}
-use Rattle.question.specs.Question.{question_table}
-use Rattle.question.specs.declared.Asked.{Asked}
-use Rattle.question.specs.declared.Asked.TheVariants.{Verdict, Refused}
+use Rattle.question.specs.Question.{Asked, question_table}
+use Rattle.question.specs.Question.Asked.{Verdict, Refused}
 use Rattle.askcall.specs.Asking.{graded_of}
 use Rattle.texts.specs.Stages.{Front, stays, refused, front_of}
 use Rattle.texts.specs.Meaning.{Meaning, means, nothing, meaning}

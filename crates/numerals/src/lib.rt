@@ -10,7 +10,7 @@ use fusefields::bytes::{is_digit, run, value_of};
 const MOST: usize = 1_000_000_000_000_000_000;
 
 // The number that a word spells; nothing for a word that is empty or has a byte that is no digit.
-#[tactic(auto, using(std::proofs::lemmas::Grind::common_steps), unfolding(crate::specs::Numerals::numeral_of))]
+#[tactic(auto, unfolding(crate::specs::Numerals::numeral_of))]
 pub fn number_of(s: &[u8]) -> Option<usize>
     ensures { result ≡ numeral_of s.now }
 {

@@ -10,7 +10,6 @@ use borrow.Author.Tests.{eqb-true, eqb-false, eq-eqb, le-ltb, lt-ltb, ltb-true}
 use lib.ListN.{length, get_or, set, replicate, length-set, get_or-replicate}
 use lib.Seq.{get_or-set_same, get_or-set_other, ext_get_or}
 use Rattle.basics.specs.Choice.{pick}
-use Rattle.basics.specs.Below.{listed}
 use Rattle.basics.proofs.Truth.{and_l, and_r, true_of, of_true, clash}
 use Rattle.basics.proofs.Store.{below_or_not}
 use Rattle.trees.specs.Layout.{Elements}
@@ -158,7 +157,3 @@ held_end e pr d l i h u c =
     let z : i ≡ 64 = omega (arith, h, u) in
     ext_get_or d l (ten (λ k. pr (cell_of e k))) c.size
     (λ k g. c.says k (subst (λ (n : ℕ). k < n) c.size g) ∙ ap (λ (j : ℕ). pr (up_to e j k)) z ∙ ap pr (upto_all e k) ∙ sym (ten_at (λ k. pr (cell_of e k)) d k (subst (λ (n : ℕ). k < n) c.size g)))
-
-pub ten_listed : (f : ℕ → ℕ) → listed f 10 ≡ ten f
-unfolding listed
-ten_listed f = refl

@@ -7,9 +7,16 @@ use native.Mathlib.Omega.{arith}
 use lib.Dec.{eqb, leb, ltb}
 use borrow.Author.Tests.{eq-eqb, ne_eqb, le-ltb, lt-ltb, ltb-true, leb-true}
 use lib.ListN.{length, get_or, take, set, replicate, length-replicate}
+use Rattle.std.specs.Prelude.{Some, Ok, Err}
 use Rattle.basics.specs.Choice.{pick, bit}
+use Rattle.basics.specs.Refusal.{number_of as reason_number}
+use Rattle.basics.specs.declared.refusal.Reason.{Reason}
+use Rattle.basics.specs.declared.refusal.Reason.TheVariants.{Length, Grammar, Arithmetic, Name, Index, Limit, Assignment, Register, Loop, Position, Pins, Products, Memory, Question, Form, Device, Fuse, FuseSum, ByteSum, Model, Map, Value}
+use Rattle.cells.specs.Kind.{numbers}
+use Rattle.cells.specs.declared.Kind.{Kind}
+use Rattle.cells.specs.declared.Cells.{Cells}
+use Rattle.fit.specs.declared.Fitted.{Fitted}
 use Rattle.basics.specs.Below.{all_below, listed}
-use Rattle.basics.proofs.Truth.{clash}
 use Rattle.basics.proofs.Folds.{None, none_start, none_more, all_at}
 use Rattle.trees.specs.Layout.{Elements}
 use Rattle.circuit.specs.StageFive.{Verdict, stage_five}
@@ -18,16 +25,15 @@ use Rattle.circuit.proofs.First.{hit, missed}
 use Rattle.meaning.specs.Circuit.{out_at}
 use Rattle.device.specs.Device.{products_of}
 use Rattle.sums.specs.Product.{Digit}
-use Rattle.fit.specs.Fit.{Programmed, fitted, inverted, primes_of, opposite, fits, taken, refused as noProducts}
+use Rattle.fit.specs.Fit.{Programmed, seen as programmed, fitted, inverted, primes_of, opposite, fits, taken, refused as noProducts}
 use Rattle.cells.specs.Counts.{picks}
 use Rattle.cells.specs.Map.{map_of}
 use Rattle.reach.specs.Uses.{registers}
 use Rattle.behave.specs.Cells.{unused, combinational, registered, code}
-use Rattle.outputs.specs.declared.Tried.{Tried}
 use Rattle.outputs.specs.Outputs.{out_of, kind_of, too_many, fitted_out, misfits, stage_six, cell_of, masks_of, counts_of, kinds_of, s0s_of, map_for}
-use Rattle.outputs.specs.Trial.{tried_of}
+use Rattle.outputs.specs.Trial.{Tried, seen as seen_trial, tried_of}
 use Rattle.outputs.proofs.Trying.{out_pin}
-use Rattle.outmap.specs.Sixth.{fills, placed, number_of, Fitting, Few, fact_at, facts_of, after}
+use Rattle.outmap.specs.Sixth.{fills, placed, number_of, Placed, Fitting, Few, fact_at, facts_of, after}
 use Rattle.outmap.proofs.Filling.{out_is, Held, held_start, held_more, held_end, ten_is}
 
 -- ---- at most sixteen products
@@ -61,17 +67,41 @@ out_few e i ok h c = let p = out_pin e i ok h c in fitted_few (23 - e.pin i) _ _
 
 -- ---- one element
 
-pub no_out : (e : Elements) (i : ℕ) → (e.class i ≡ 2 → ⊥) → (0 ≡ number_of e i) × (fills e i ≡ false)
+pub no_out : (e : Elements) (i : ℕ) → eqb (e.class i) 2 ≡ false → (0 ≡ number_of e i) × (fills e i ≡ false)
 unfolding number_of fills
-no_out e i n =
-    let q = ne_eqb (e.class i) 2 n in
+no_out e i q =
     (sym (ap (λ (b : Bool). pick b (tried_of e i).number 0) q), ap (λ (b : Bool). b && (eqb (out_at e (e.pin i)) i && eqb (tried_of e i).number 0)) q)
 
-pub number_is : (e : Elements) (i : ℕ) (t : Tried) → e.class i ≡ 2 → t ≡ tried_of e i → t.number ≡ number_of e i
+-- no reason has number 0
+pub reason_positive : (r : Reason) → reason_number r ≡ 0 → ⊥
+reason_positive Length h = absurd (omega arith)
+reason_positive Grammar h = absurd (omega arith)
+reason_positive Arithmetic h = absurd (omega arith)
+reason_positive Name h = absurd (omega arith)
+reason_positive Index h = absurd (omega arith)
+reason_positive Limit h = absurd (omega arith)
+reason_positive Assignment h = absurd (omega arith)
+reason_positive Register h = absurd (omega arith)
+reason_positive Loop h = absurd (omega arith)
+reason_positive Position h = absurd (omega arith)
+reason_positive Pins h = absurd (omega arith)
+reason_positive Products h = absurd (omega arith)
+reason_positive Memory h = absurd (omega arith)
+reason_positive Question h = absurd (omega arith)
+reason_positive Form h = absurd (omega arith)
+reason_positive Device h = absurd (omega arith)
+reason_positive Fuse h = absurd (omega arith)
+reason_positive FuseSum h = absurd (omega arith)
+reason_positive ByteSum h = absurd (omega arith)
+reason_positive Model h = absurd (omega arith)
+reason_positive Map h = absurd (omega arith)
+reason_positive Value h = absurd (omega arith)
+
+number_is : (e : Elements) (i : ℕ) (t : Tried) → e.class i ≡ 2 → t ≡ tried_of e i → t.number ≡ number_of e i
 unfolding number_of
 number_is e i t c q = ap (λ (x : Tried). x.number) q ∙ sym (ap (λ (b : Bool). pick b (tried_of e i).number 0) (eq-eqb (e.class i) 2 c))
 
-pub no_number : (e : Elements) (i : ℕ) (t : Tried) → t ≡ tried_of e i → (t.number ≡ 0 → ⊥) → fills e i ≡ false
+no_number : (e : Elements) (i : ℕ) (t : Tried) → t ≡ tried_of e i → (t.number ≡ 0 → ⊥) → fills e i ≡ false
 unfolding fills
 no_number e i t q n = go (eqb (e.class i) 2) (eqb (out_at e (e.pin i)) i) (ne_eqb (tried_of e i).number 0 (λ z. n (ap (λ (x : Tried). x.number) q ∙ z)))
   where
@@ -79,6 +109,10 @@ no_number e i t q n = go (eqb (e.class i) 2) (eqb (out_at e (e.pin i)) i) (ne_eq
     go true true w = w
     go true false w = refl
     go false b w = refl
+
+-- an OUT that is refused
+pub refused_out : (e : Elements) (i : ℕ) (r : Reason) → e.class i ≡ 2 → seen_trial (Err r) ≡ tried_of e i → (reason_number r ≡ number_of e i) × (fills e i ≡ false)
+refused_out e i r c q = (number_is e i (seen_trial (Err r)) c q, no_number e i (seen_trial (Err r)) q (reason_positive r))
 
 pub not_first : (e : Elements) (i : ℕ) (b : Bool) → b ≡ eqb (out_at e (e.pin i)) i → b ≡ false → fills e i ≡ false
 unfolding fills
@@ -88,33 +122,52 @@ not_first e i b q w = ap (λ (y : Bool). eqb (e.class i) 2 && (y && eqb (tried_o
     go true = refl
     go false = refl
 
-pub first_fills : (e : Elements) (i : ℕ) (b : Bool) (t : Tried) → e.class i ≡ 2 → t ≡ tried_of e i → t.number ≡ 0 → b ≡ eqb (out_at e (e.pin i)) i → b ≡ true → fills e i ≡ true
+pub first_fills : (e : Elements) (i : ℕ) (b : Bool) (t : Fitted) → e.class i ≡ 2 → seen_trial (Ok t) ≡ tried_of e i → b ≡ eqb (out_at e (e.pin i)) i → b ≡ true → fills e i ≡ true
 unfolding fills
-first_fills e i b t c q z f w =
-    ap₂ (λ (x y : Bool). x && (y && eqb (tried_of e i).number 0)) (eq-eqb (e.class i) 2 c) (sym f ∙ w) ∙ eq-eqb (tried_of e i).number 0 (sym (ap (λ (x : Tried). x.number) q) ∙ z)
+first_fills e i b t c q f w =
+    ap₂ (λ (x y : Bool). x && (y && eqb (tried_of e i).number 0)) (eq-eqb (e.class i) 2 c) (sym f ∙ w) ∙ eq-eqb (tried_of e i).number 0 (sym (ap (λ (x : Tried). x.number) q))
 
-pub left_out : {A : Type 0} (e : Elements) (i : ℕ) (l : List A) (v : A) → fills e i ≡ false → l ≡ placed e i l v
+left_out : {A : Type 0} (e : Elements) (i : ℕ) (l : List A) (v : A) → fills e i ≡ false → l ≡ placed e i l v
 left_out e i l v q = sym (ap (λ (b : Bool). pick b (set l (23 - e.pin i) v) l) q)
 
-pub put_in : {A : Type 0} (e : Elements) (i k : ℕ) (l : List A) (u v : A) → fills e i ≡ true → k ≡ 23 - e.pin i → u ≡ v → set l k u ≡ placed e i l v
+-- an element that fills no cell
+pub none_placed : (e : Elements) (i : ℕ) (c : Cells) → fills e i ≡ false → Placed e i c c
+none_placed e i c q = record { masks_after = left_out e i c.masks _ q; counts_after = left_out e i c.counts _ q; kinds_after = refl; s0s_after = left_out e i c.s0s _ q }
+
+put_in : {A : Type 0} (e : Elements) (i k : ℕ) (l : List A) (u v : A) → fills e i ≡ true → k ≡ 23 - e.pin i → u ≡ v → set l k u ≡ placed e i l v
 put_in e i k l u v q z w = ap₂ (set l) z w ∙ sym (ap (λ (b : Bool). pick b (set l (23 - e.pin i) v) l) q)
 
-fit_is : (e : Elements) (i : ℕ) → (tried_of e i).number ≡ 0
-    → tried_of e i ≡ record { number = pick (fitted_out e i).ok 0 12; s0 = (fitted_out e i).s0; n = (fitted_out e i).n; masks = (fitted_out e i).masks }
-unfolding tried_of
-fit_is e i q = go (too_many e i) q
-  where
-    go : (b : Bool)
-        → (pick {X = Tried} b (record { number = 11; s0 = false; n = 0; masks = replicate 16 0 }) (record { number = pick (fitted_out e i).ok 0 12; s0 = (fitted_out e i).s0; n = (fitted_out e i).n; masks = (fitted_out e i).masks })).number ≡ 0
-        → ◌≡◌ {A = Tried}
-        (pick {X = Tried} b (record { number = 11; s0 = false; n = 0; masks = replicate 16 0 }) (record { number = pick (fitted_out e i).ok 0 12; s0 = (fitted_out e i).s0; n = (fitted_out e i).n; masks = (fitted_out e i).masks }))
-        (record { number = pick (fitted_out e i).ok 0 12; s0 = (fitted_out e i).s0; n = (fitted_out e i).n; masks = (fitted_out e i).masks })
-    go true q = absurd (omega (arith, q))
-    go false q = refl
+-- one that is fitted into its cell
+pub now_placed : (e : Elements) (i k s0 : ℕ) (c : Cells) (t : Fitted) → fills e i ≡ true → k ≡ 23 - e.pin i → programmed (Some t) ≡ fitted_out e i → s0 ≡ bit t.s0
+    → Placed e i c (record { masks = set c.masks k t.masks; counts = set c.counts k t.n; kinds = c.kinds; s0s = set c.s0s k s0 })
+now_placed e i k s0 c t q z w b =
+    record {
+      masks_after = put_in e i k c.masks _ _ q z (ap (λ (x : Programmed). x.masks) w);
+      counts_after = put_in e i k c.counts _ _ q z (ap (λ (x : Programmed). x.n) w);
+      kinds_after = refl;
+      s0s_after = put_in e i k c.s0s _ _ q z (b ∙ ap (λ (x : Programmed). bit x.s0) w);
+    }
 
-pub tried_fit : (e : Elements) (i : ℕ) (t : Tried) → t ≡ tried_of e i → t.number ≡ 0
-    → t ≡ record { number = pick (fitted_out e i).ok 0 12; s0 = (fitted_out e i).s0; n = (fitted_out e i).n; masks = (fitted_out e i).masks }
-tried_fit e i t q z = q ∙ fit_is e i (sym (ap (λ (x : Tried). x.number) q) ∙ z)
+tried_fit : (u : Programmed) (t : Fitted) (b c : Bool) → u.ok ≡ c
+    → seen_trial (Ok t)
+    ≡ pick b (record { number = 11; s0 = false; n = 0; masks = replicate 16 0 }) (record { number = pick c 0 12; s0 = u.s0; n = u.n; masks = u.masks })
+    → programmed (Some t) ≡ u
+tried_fit u t true c w q = absurd (let z : ◌≡◌ {A = ℕ} 0 11 = ap (λ (x : Tried). x.number) q in omega (arith, z))
+tried_fit u t false false w q = absurd (let z : ◌≡◌ {A = ℕ} 0 12 = ap (λ (x : Tried). x.number) q in omega (arith, z))
+tried_fit u t false true w q =
+    let a = ap (λ (x : Tried). x.s0) q in
+    let b = ap (λ (x : Tried). x.n) q in
+    let c = ap (λ (x : Tried). x.masks) q in
+    let o = sym w in
+    λ y. record { ok = o y; s0 = a y; n = b y; masks = c y }
+
+fit_is : (e : Elements) (i : ℕ) (t : Fitted) → seen_trial (Ok t) ≡ tried_of e i → programmed (Some t) ≡ fitted_out e i
+unfolding tried_of
+fit_is e i t q = tried_fit (fitted_out e i) t (too_many e i) (fitted_out e i).ok refl q
+
+-- an OUT that is fitted
+pub fitted_is : (e : Elements) (i : ℕ) (t : Fitted) → e.class i ≡ 2 → seen_trial (Ok t) ≡ tried_of e i → (0 ≡ number_of e i) × (programmed (Some t) ≡ fitted_out e i)
+fitted_is e i t c q = (number_is e i (seen_trial (Ok t)) c q, fit_is e i t q)
 
 -- ---- all of them
 
@@ -168,48 +221,38 @@ lets_pass e i h c =
     sym (ap (λ (b : Bool). pick b (refused (pick (too_many e 64) 11 12) (e.place 64)) fine) (le-ltb 64 64 (omega arith)))
     ∙ ap (λ (o : ℕ). pick (ltb o 64) (refused (pick (too_many e o) 11 12) (e.place o)) fine) (missed (misfits e) 64 i h c)
 
-pub record Turned (e : Elements) (all : List (List ℕ)) (counts s0s : List ℕ) (i : ℕ) : Type 0 where
+pub record Turned (e : Elements) (cells : Cells) (i : ℕ) : Type 0 where
   pub none : None (misfits e) 64 i
-  pub masks : Held e (λ t. t.masks) [] all i
-  pub counted : Held e (λ t. t.n) 0 counts i
-  pub polar : Held e (λ t. bit t.s0) 0 s0s i
+  pub masks : Held e (λ t. t.masks) [] cells.masks i
+  pub counted : Held e (λ t. t.n) 0 cells.counts i
+  pub kinds : numbers cells.kinds ≡ kinds_of e
+  pub polar : Held e (λ t. bit t.s0) 0 cells.s0s i
 
-pub turned_start : (e : Elements) (all : List (List ℕ)) (counts s0s : List ℕ) → all ≡ replicate 10 (replicate 16 0) → counts ≡ replicate 10 0 → s0s ≡ replicate 10 0 → Turned e all counts s0s 0
-turned_start e all counts s0s a b c =
-    record { none = none_start (misfits e) 64; masks = held_start e (λ t. t.masks) [] all a; counted = held_start e (λ t. t.n) 0 counts b; polar = held_start e (λ t. bit t.s0) 0 s0s c }
+pub turned_start : (e : Elements) (kinds : List Kind) → numbers kinds ≡ kinds_of e
+    → Turned e (record { masks = replicate 10 (replicate 16 0); counts = replicate 10 0; kinds = kinds; s0s = replicate 10 0 }) 0
+turned_start e kinds q =
+    record { none = none_start (misfits e) 64; masks = held_start e (λ t. t.masks) [] _ refl; counted = held_start e (λ t. t.n) 0 _ refl; kinds = q; polar = held_start e (λ t. bit t.s0) 0 _ refl }
 
-pub turned_more : (e : Elements) (all all' : List (List ℕ)) (counts counts' s0s s0s' : List ℕ) (i number : ℕ) → stage_five e ≡ fine → i < 64 → Turned e all counts s0s i
-    → number ≡ number_of e i → number ≡ 0 → all' ≡ placed e i all (fitted_out e i).masks → counts' ≡ placed e i counts (fitted_out e i).n → s0s' ≡ placed e i s0s (bit (fitted_out e i).s0)
-    → Turned e all' counts' s0s' (i + 1)
-turned_more e all all' counts counts' s0s s0s' i number ok h t q z a b c =
-    let w = sym q ∙ z in
+pub turned_more : (e : Elements) (c c' : Cells) (i : ℕ) → stage_five e ≡ fine → i < 64 → Turned e c i → 0 ≡ number_of e i → Placed e i c c' → Turned e c' (i + 1)
+turned_more e c c' i ok h t q p =
+    let w = sym q in
     record {
       none = none_more (misfits e) 64 i h t.none (passes e i w);
-      masks = subst (λ (l : List (List ℕ)). Held e (λ t. t.masks) [] l (i + 1)) (sym a) (held_more e (λ t. t.masks) [] all i (fitted_out e i).masks ok h w t.masks refl);
-      counted = subst (λ (l : List ℕ). Held e (λ t. t.n) 0 l (i + 1)) (sym b) (held_more e (λ t. t.n) 0 counts i (fitted_out e i).n ok h w t.counted refl);
-      polar = subst (λ (l : List ℕ). Held e (λ t. bit t.s0) 0 l (i + 1)) (sym c) (held_more e (λ t. bit t.s0) 0 s0s i (bit (fitted_out e i).s0) ok h w t.polar refl);
+      masks = subst (λ (l : List (List ℕ)). Held e (λ t. t.masks) [] l (i + 1)) (sym p.masks_after) (held_more e (λ t. t.masks) [] c.masks i (fitted_out e i).masks ok h w t.masks refl);
+      counted = subst (λ (l : List ℕ). Held e (λ t. t.n) 0 l (i + 1)) (sym p.counts_after) (held_more e (λ t. t.n) 0 c.counts i (fitted_out e i).n ok h w t.counted refl);
+      kinds = ap numbers p.kinds_after ∙ t.kinds;
+      polar = subst (λ (l : List ℕ). Held e (λ t. bit t.s0) 0 l (i + 1)) (sym p.s0s_after) (held_more e (λ t. bit t.s0) 0 c.s0s i (bit (fitted_out e i).s0) ok h w t.polar refl);
     }
 
-pub turned_end : (e : Elements) (all : List (List ℕ)) (counts s0s : List ℕ) (i : ℕ) → 64 ≤ i → Turned e all counts s0s i → Fitting e all counts s0s
-turned_end e all counts s0s i h t =
+pub turned_end : (e : Elements) (c : Cells) (i : ℕ) → 64 ≤ i → Turned e c i → Fitting e c
+turned_end e c i h t =
     let u = t.none.under in
     record {
-      masks_are = λ z. held_end e (λ t. t.masks) [] all i h u t.masks;
-      counts_are = λ z. held_end e (λ t. t.n) 0 counts i h u t.counted;
-      s0s_are = λ z. held_end e (λ t. bit t.s0) 0 s0s i h u t.polar;
+      masks_are = held_end e (λ t. t.masks) [] c.masks i h u t.masks;
+      counts_are = held_end e (λ t. t.n) 0 c.counts i h u t.counted;
+      kinds_are = t.kinds;
+      s0s_are = held_end e (λ t. bit t.s0) 0 c.s0s i h u t.polar;
     }
-
-is_fine : Verdict → Bool
-is_fine fine = true
-is_fine (refused n p) = false
-
-pub not_fine : (n p : ℕ) → refused n p ≡ fine → ⊥
-unfolding is_fine
-not_fine n p q = clash (sym (ap is_fine q))
-
-pub stopped : (e : Elements) (all : List (List ℕ)) (counts s0s : List ℕ) (n p : ℕ) → refused n p ≡ stage_six e → Fitting e all counts s0s
-stopped e all counts s0s n p q =
-    record { masks_are = λ z. absurd (not_fine n p (q ∙ z)); counts_are = λ z. absurd (not_fine n p (q ∙ z)); s0s_are = λ z. absurd (not_fine n p (q ∙ z)) }
 
 -- ---- facts
 
@@ -260,9 +303,6 @@ after_fine v new old l q w = w ∙ ap (λ (x : Verdict). after x new old) q
 -- where stage 6 lets pass, the lent memory holds what is new
 pub after_new : (v : Verdict) (new old l : List ℕ) → fine ≡ v → l ≡ after v new old → l ≡ new
 after_new v new old l q w = w ∙ ap (λ (x : Verdict). after x new old) (sym q)
-
-pub after_refused : (v : Verdict) (new old l : List ℕ) (n p : ℕ) → refused n p ≡ v → l ≡ old → l ≡ after v new old
-after_refused v new old l n p q w = w ∙ ap (λ (x : Verdict). after x new old) q
 
 pub zeros_long : (l l₀ : List ℕ) → l ≡ replicate (length l₀) 0 → 59049 ≤ length l₀ → 59049 ≤ length l
 zeros_long l l₀ q h = subst (λ (n : ℕ). 59049 ≤ n) (sym (ap length q ∙ length-replicate (length l₀) 0)) h

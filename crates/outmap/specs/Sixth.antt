@@ -1,19 +1,21 @@
 -- Stage 6 as the code gives it, and what it leaves in the memory that it was lent. Assumes nothing.
-use Rattle.std.specs.Prelude.{◌≡◌, Bool, ◌&&◌, List, [], ◌++◌, ℕ, ◌-◌, ◌<◌, ◌≤◌, eqb, ltb, get_or, take, set}
-use Rattle.basics.specs.Choice.{pick}
+use Rattle.std.specs.Prelude.{◌≡◌, Bool, ◌&&◌, List, [], ◌++◌, ℕ, ◌-◌, ◌<◌, ◌≤◌, eqb, ltb, get_or, take, set, Result, Ok, Err}
+use Rattle.basics.specs.Choice.{pick, bit}
+use Rattle.basics.specs.declared.refusal.Refusal.{Refusal}
+use Rattle.basics.specs.Refusal.{number_of as reason_number}
 use Rattle.trees.specs.Layout.{Elements}
 use Rattle.circuit.specs.StageFive.{Verdict}
 use Rattle.circuit.specs.StageFive.Verdict.{fine, refused}
 use Rattle.meaning.specs.Circuit.{out_at}
+use Rattle.cells.specs.Kind.{numbers}
 use Rattle.cells.specs.Counts.{picks}
-use Rattle.outmap.specs.declared.Sixth.{Sixth as Said}
-use Rattle.outmap.specs.declared.Sixth.TheVariants.{Fine, Refused}
+use Rattle.cells.specs.declared.Cells.{Cells}
 use Rattle.outputs.specs.Trial.{tried_of}
-use Rattle.outputs.specs.Outputs.{ten, stage_six, cell_of, masks_of, counts_of, s0s_of}
+use Rattle.outputs.specs.Outputs.{ten, cell_of, fitted_out, masks_of, counts_of, kinds_of, s0s_of}
 
-abbrev pub seen : Said → Verdict
-seen Fine = fine
-seen (Refused n p) = refused n p
+abbrev pub seen : {A : Type 0} → Result A Refusal → Verdict
+seen (Ok a) = fine
+seen (Err r) = refused (reason_number r.reason) r.place
 
 -- lent memory holds what is new, and on a refusal what it held before (document 01, "Refusal numbers", at its end)
 abbrev pub after : Verdict → List ℕ → List ℕ → List ℕ
@@ -39,11 +41,19 @@ placed e i l v = pick (fills e i) (set l (23 - e.pin i) v) l
 unfoldable pub number_of : Elements → ℕ → ℕ
 number_of e i = pick (eqb (e.class i) 2) (tried_of e i).number 0
 
--- the arrays by cell hold what every OUT is fitted to, where none is refused
-pub record Fitting (e : Elements) (all : List (List ℕ)) (counts s0s : List ℕ) : Type 0 where
-  pub masks_are : stage_six e ≡ fine → all ≡ masks_of e
-  pub counts_are : stage_six e ≡ fine → counts ≡ counts_of e
-  pub s0s_are : stage_six e ≡ fine → s0s ≡ s0s_of e
+-- the arrays of the cells once element i has had its turn
+pub record Placed (e : Elements) (i : ℕ) (old new : Cells) : Type 0 where
+  pub masks_after : new.masks ≡ placed e i old.masks (fitted_out e i).masks
+  pub counts_after : new.counts ≡ placed e i old.counts (fitted_out e i).n
+  pub kinds_after : new.kinds ≡ old.kinds
+  pub s0s_after : new.s0s ≡ placed e i old.s0s (bit (fitted_out e i).s0)
+
+-- the cells hold what every OUT is fitted to
+pub record Fitting (e : Elements) (cells : Cells) : Type 0 where
+  pub masks_are : cells.masks ≡ masks_of e
+  pub counts_are : cells.counts ≡ counts_of e
+  pub kinds_are : numbers cells.kinds ≡ kinds_of e
+  pub s0s_are : cells.s0s ≡ s0s_of e
 
 -- no cell has more than sixteen products
 pub record Few (counts : List ℕ) : Type 0 where

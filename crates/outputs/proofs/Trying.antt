@@ -25,10 +25,15 @@ use Rattle.pins.specs.Variables.{count_of, mask_of}
 use Rattle.tables.specs.Tables.{entry_of, Tabled, tabled, table_in}
 use Rattle.tables.specs.Tables.Tabled.{table, many}
 use Rattle.engine.specs.Table.{function}
-use Rattle.fit.specs.Fit.{Programmed, fitted}
-use Rattle.outputs.specs.declared.Tried.{Tried}
+use Rattle.engine.proofs.Walk.{few_two}
+use Rattle.std.specs.Prelude.{Option, Some, None, Err}
+use Rattle.std.specs.Option.{ok_or}
+use Rattle.basics.specs.declared.refusal.Reason.{Reason}
+use Rattle.basics.specs.declared.refusal.Reason.TheVariants.{Pins, Products}
+use Rattle.fit.specs.declared.Fitted.{Fitted}
+use Rattle.fit.specs.Fit.{Programmed, seen as programmed, fitted}
 use Rattle.outputs.specs.Outputs.{table_of, too_many, fitted_out}
-use Rattle.outputs.specs.Trial.{tried_of}
+use Rattle.outputs.specs.Trial.{Tried, seen, tried_of}
 
 -- ---- an OUT's pin
 
@@ -93,7 +98,7 @@ module _ (e : Elements) (rows : Bool) (o : ℕ) where
       go true = refl
       go false = refl
 
-  pub in_table : (n m : ℕ) → table n m ≡ tabled e rows o → leb (count_of e rows o) 10 ≡ true
+  in_table : (n m : ℕ) → table n m ≡ tabled e rows o → leb (count_of e rows o) 10 ≡ true
   unfolding is_table
   in_table n m q = sym (is-table (table n m) q)
 
@@ -105,25 +110,44 @@ module _ (e : Elements) (rows : Bool) (o : ℕ) where
   unfolding tabled
   whole n m q = q ∙ ap (λ (b : Bool). pick b (table (count_of e rows o) (mask_of e rows o)) (many (e.place o))) (in_table n m q)
 
-  pub table_count : (n m : ℕ) → table n m ≡ tabled e rows o → n ≡ count_of e rows o
+  table_count : (n m : ℕ) → table n m ≡ tabled e rows o → n ≡ count_of e rows o
   unfolding count_in
   table_count n m q = ap count_in (whole n m q)
 
-  pub table_mask : (n m : ℕ) → table n m ≡ tabled e rows o → m ≡ mask_of e rows o
+  table_mask : (n m : ℕ) → table n m ≡ tabled e rows o → m ≡ mask_of e rows o
   unfolding mask_in
   table_mask n m q = ap mask_in (whole n m q)
 
-  pub few : (n m : ℕ) → table n m ≡ tabled e rows o → n < 11
+  few : (n m : ℕ) → table n m ≡ tabled e rows o → n < 11
   few n m q = let a = leb-true (count_of e rows o) 10 (in_table n m q) in let b = table_count n m q in omega (arith, a, b)
 
   -- the part of the lent bytes that is the table
-  pub table_part : (n m : ℕ) → table n m ≡ tabled e rows o → (t t₀ : List ℕ) → t ≡ table_in e rows o t₀ → (size : ℕ) → size ≡ 2 ^ n
+  table_part : (n m : ℕ) → table n m ≡ tabled e rows o → (t t₀ : List ℕ) → t ≡ table_in e rows o t₀ → (size : ℕ) → size ≡ 2 ^ n
       → take size t ≡ listed (λ k. bit (entry_of e rows o k)) (2 ^ count_of e rows o)
   unfolding table_in
   table_part n m q t t₀ w size s =
       let l = listed (λ k. bit (entry_of e rows o k)) (2 ^ count_of e rows o) in
       ap₂ take (s ∙ ap (λ (j : ℕ). 2 ^ j) (table_count n m q)) (w ∙ ap (λ (b : Bool). pick b (l ++ drop (2 ^ count_of e rows o) t₀) t₀) (in_table n m q))
       ∙ take_at l (drop (2 ^ count_of e rows o) t₀) (2 ^ count_of e rows o) (listed_length (λ k. bit (entry_of e rows o k)) (2 ^ count_of e rows o))
+
+-- what is known where a table was made: its variables, and the part of the lent bytes that it is
+pub record Made (e : Elements) (rows : Bool) (o n m : ℕ) : Type 0 where
+  pub count : n ≡ count_of e rows o
+  pub mask : m ≡ mask_of e rows o
+  pub few : n < 11
+  pub room : 2 ^ n ≤ 1024
+  pub part : (t t₀ : List ℕ) → t ≡ table_in e rows o t₀ → (size : ℕ) → size ≡ 2 ^ n → take size t ≡ listed (λ k. bit (entry_of e rows o k)) (2 ^ count_of e rows o)
+
+pub made : (e : Elements) (rows : Bool) (o n m : ℕ) → table n m ≡ tabled e rows o → Made e rows o n m
+made e rows o n m q =
+    let f = few e rows o n m q in
+    record {
+      count = table_count e rows o n m q;
+      mask = table_mask e rows o n m q;
+      few = f;
+      room = few_two n (omega (arith, f));
+      part = table_part e rows o n m q;
+    }
 
 pub table_length : (e : Elements) (o n : ℕ) (f : List ℕ) → n ≡ count_of e true o → f ≡ table_of e o → length f ≡ 2 ^ n
 unfolding table_of
@@ -144,27 +168,32 @@ not_many : (e : Elements) (o n : ℕ) → n ≡ count_of e true o → n < 11 →
 unfolding too_many
 not_many e o n q h = ap not (le-leb (count_of e true o) 10 (omega (arith, q)))
 
-pub tried_fits : (e : Elements) (o n x : ℕ) (t : Programmed) → n ≡ count_of e true o → n < 11 → t ≡ fitted_out e o → x ≡ pick t.ok 0 12
-    → ◌≡◌ {A = Tried} (record { number = x; s0 = t.s0; n = t.n; masks = t.masks }) (tried_of e o)
+tried_seen : (t : Option Fitted)
+    → seen (ok_or t Products) ≡ record { number = pick (programmed t).ok 0 12; s0 = (programmed t).s0; n = (programmed t).n; masks = (programmed t).masks }
+tried_seen (Some t) = refl
+tried_seen None = refl
+
+pub tried_fits : (e : Elements) (o n : ℕ) (t : Option Fitted) → n ≡ count_of e true o → n < 11 → programmed t ≡ fitted_out e o → seen (ok_or t Products) ≡ tried_of e o
 unfolding tried_of
-tried_fits e o n x t q h w z =
-    ap (λ (j : ℕ). record { number = j; s0 = t.s0; n = t.n; masks = t.masks }) z
+tried_fits e o n t q h w =
+    tried_seen t
     ∙ ap (λ (u : Programmed). record { number = pick u.ok 0 12; s0 = u.s0; n = u.n; masks = u.masks }) w
     ∙ sym
     (ap
     (λ (b : Bool).
-    pick b
+    pick {X = Tried} b
     (record { number = 11; s0 = false; n = 0; masks = replicate 16 0 })
     (record { number = pick (fitted_out e o).ok 0 12; s0 = (fitted_out e o).s0; n = (fitted_out e o).n; masks = (fitted_out e o).masks }))
     (not_many e o n q h))
 
-pub tried_many : (e : Elements) (o : ℕ) → leb (count_of e true o) 10 ≡ false → ◌≡◌ {A = Tried} (record { number = 11; s0 = false; n = 0; masks = replicate 16 0 }) (tried_of e o)
+pub tried_many : (e : Elements) (o : ℕ) (r : Reason) → r ≡ Pins → leb (count_of e true o) 10 ≡ false → seen (Err r) ≡ tried_of e o
 unfolding tried_of too_many
-tried_many e o q =
-    sym
+tried_many e o r w q =
+    ap (λ (x : Reason). seen (Err x)) w
+    ∙ sym
     (ap
     (λ (b : Bool).
-    pick (not b)
+    pick {X = Tried} (not b)
     (record { number = 11; s0 = false; n = 0; masks = replicate 16 0 })
     (record { number = pick (fitted_out e o).ok 0 12; s0 = (fitted_out e o).s0; n = (fitted_out e o).n; masks = (fitted_out e o).masks }))
     q)

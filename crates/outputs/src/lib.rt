@@ -1,45 +1,27 @@
 // The outputs of a module: each OUT fitted to its cell, and the map of all ten.
 #![tactic(auto)]
 
-ghost use Rattle.std.specs.Prelude.{◌≡◌, Bool, true, false, not, ◌&&◌, List, ◌++◌, ℕ, ◌+◌, ◌-◌, ◌*◌, ◌^◌, ◌<◌, ◌≤◌, length, get_or, take, replicate, set};
-ghost use Rattle.basics.specs.Choice.{pick, bit};
-ghost use Rattle.trees.specs.Layout.{elements_of, class_of};
+ghost use Rattle.std.specs.Prelude.{◌≡◌, true, ◌<◌, ◌≤◌, length, replicate};
+ghost use Rattle.trees.specs.Layout.{elements_of};
 ghost use Rattle.circuit.specs.StageFive.{stage_five};
 ghost use Rattle.circuit.specs.StageFive.Verdict.{fine};
 ghost use Rattle.pins.specs.Variables.{count_of, mask_of};
-ghost use Rattle.outputs.specs.Outputs.{table_of};
-ghost use Rattle.outputs.specs.Trial.{tried_of};
+ghost use Rattle.fit.specs.Fit.{seen as programmed};
+ghost use Rattle.outputs.specs.Outputs.{table_of, fitted_out};
+ghost use Rattle.outputs.specs.Trial.{seen, tried_of};
 
-// What comes of one OUT: number 0, its S0 and its first n products, or the number of its refusal.
-#[derive(Clone, Copy)]
-pub struct Tried {
-    pub number: u8,
-    pub s0: bool,
-    pub n: usize,
-    pub masks: [u64; 16],
-}
-
-// More pins than there are variables in a table.
-fn many() -> Tried
-    ensures { result ≡ record { number = 11; s0 = false; n = 0; masks = replicate 16 0 } }
-{
-    Tried {
-        number: 11,
-        s0: false,
-        n: 0,
-        masks: [0u64; 16],
-    }
-}
-
-// 12 where the complete sum doesn't fit.
-fn misfit(ok: bool) -> u8
-    ensures { result ≡ pick ok 0 12 }
-{
-    if ok { 0 } else { 12 }
-}
+use basics::refusal::Reason;
+use fit::Fitted;
 
 // OUT o in the cell of its pin, from its truth table.
-fn fit_table(parts: &[u32], o: usize, f: &[u8], n: usize, mask: u32, room: &mut [u8]) -> Tried
+fn fit_table(
+    parts: &[u32],
+    o: usize,
+    f: &[u8],
+    n: usize,
+    mask: u32,
+    room: &mut [u8],
+) -> Option<Fitted>
     requires o_bound { o < 64 }
     requires bound { 14 ≤ (elements_of parts.now).pin o }
     requires o_bound_2 { (elements_of parts.now).pin o < 24 }
@@ -48,41 +30,31 @@ fn fit_table(parts: &[u32], o: usize, f: &[u8], n: usize, mask: u32, room: &mut 
     requires mask_value { mask ≡ mask_of (elements_of parts.now) true o }
     requires f_value { f.now ≡ table_of (elements_of parts.now) o }
     requires in_bounds { 59049 ≤ length room.old }
-    ensures value { result ≡ tried_of (elements_of parts.now) o }
+    ensures value { programmed result ≡ fitted_out (elements_of parts.now) o }
     ensures room_after { room.new ≡ replicate (length room.old) 0 }
 {
     let k = 23 - trees::at(parts, trees::PIN_AT + o);
     let held = reach::registered(parts, o);
     let inverted = reach::inverse(parts, o);
-    let t = fit::fit_cell(k, held, !inverted, f, room, n, mask);
-    let ok = t.ok;
-    let s0 = t.s0;
-    let count = t.n;
-    let masks = t.masks;
-    Tried {
-        number: misfit(ok),
-        s0,
-        n: count,
-        masks,
-    }
+    fit::fit_cell(k, held, !inverted, f, room, n, mask)
 }
 
-// OUT o: its truth table, and then its cell.
-pub fn try_out(parts: &[u32], o: usize, room: &mut [u8]) -> Tried
+// OUT o: its truth table, and then its cell's S0 and products; or why it has none.
+pub fn try_out(parts: &[u32], o: usize, room: &mut [u8]) -> Result<Fitted, Reason>
     requires parts_value { stage_five (elements_of parts.now) ≡ fine }
     requires o_bound { o < 64 }
     requires o_value { (elements_of parts.now).class o ≡ 2 }
     requires in_bounds { 59049 ≤ length room.old }
     requires room_value { room.old ≡ replicate (length room.old) 0 }
-    ensures value { result ≡ tried_of (elements_of parts.now) o }
+    ensures value { seen result ≡ tried_of (elements_of parts.now) o }
     ensures room_unchanged { room.new ≡ room.old }
 {
     let mut t = [0u8; 1024];
     match tables::rows_table(parts, o, &mut t) {
-        tables::Answer::Table { count, mask } => {
-            let size = tables::power(count);
-            fit_table(parts, o, &t[..size], count, mask, room)
+        Ok(chosen) => {
+            let size = tables::power(chosen.count);
+            fit_table(parts, o, &t[..size], chosen.count, chosen.mask, room).ok_or(Reason::Products)
         }
-        tables::Answer::TooMany { place } => many(),
+        Err(refusal) => Err(refusal.reason),
     }
 }

@@ -44,11 +44,7 @@ fn named_row(d: &[u8], m: &[u8], o: usize) -> [u8; 64]
     requires { o < 64 }
     ensures { result ≡ listed (λ j. bit (named_in d.now m.now o j)) 64 }
 {
-    let mut a = [0u8; 64];
-    for j in 0..64 {
-        a[j] = basics::byte_of(is_named(d, m, o, j));
-    }
-    a
+    circuit::bits(|j| is_named(d, m, o, j))
 }
 
 // The elements that the equation of o mentions: a 1 for each.

@@ -22,9 +22,8 @@ use Rattle.sums.specs.Product.{digits, verdict}
 use Rattle.engine.specs.Table.{function}
 use Rattle.outputs.specs.Outputs.{fitted_out, too_many, misfits, stage_six}
 use Rattle.outmap.proofs.Filling.{out_is}
-use Rattle.question.specs.declared.Asked.{Asked}
-use Rattle.question.specs.declared.Asked.TheVariants.{Verdict as Verdict', Refused}
-use Rattle.question.specs.Question.{question_table, asked_of, asked}
+use Rattle.question.specs.Question.Asked.{Verdict as Verdict', Refused}
+use Rattle.question.specs.Question.{Asked, question_table, asked_of, asked}
 use Rattle.pins.specs.Named.{names_pin}
 use Rattle.device.specs.Device.{column_of}
 use Rattle.pins.specs.Variables.{variable_pin, count_of}

@@ -1,5 +1,5 @@
 -- The product question (document 01, "From equation to rows"; "Refusal numbers", 14). Assumes nothing.
-use Rattle.std.specs.Prelude.{false, List, ℕ, ◌^◌, ltb}
+use Rattle.std.specs.Prelude.{false, List, ℕ, ◌^◌, ltb, Result, Ok, Err}
 use Rattle.basics.specs.Choice.{pick, bit}
 use Rattle.basics.specs.Below.{listed}
 use Rattle.trees.specs.Layout.{Elements}
@@ -7,9 +7,21 @@ use Rattle.meaning.specs.Circuit.{out_at}
 use Rattle.pins.specs.Variables.{count_of}
 use Rattle.tables.specs.Tables.{entry_of}
 use Rattle.sums.specs.Product.{digits, verdict}
+use Rattle.basics.specs.Refusal.{number_of}
+use Rattle.basics.specs.declared.refusal.Refusal.{Refusal}
+use Rattle.engine.specs.Grade.{grade_number}
 use Rattle.engine.specs.Table.{function}
-use Rattle.question.specs.declared.Asked.{Asked}
-use Rattle.question.specs.declared.Asked.TheVariants.{Verdict, Refused}
+use Rattle.engine.specs.declared.Grade.{Grade}
+
+-- what a question comes to: a verdict's number (0 no implicant, 1 implicant, 2 prime), or a refusal's number and place
+pub data Asked : Type 0 where
+  Verdict : ℕ → Asked
+  Refused : ℕ → ℕ → Asked
+
+-- an answer seen so
+abbrev pub seen : Result Grade Refusal → Asked
+seen (Ok g) = Verdict (grade_number g)
+seen (Err r) = Refused (number_of r.reason) r.place
 
 -- the truth table of OUT o over its pins, rising
 unfoldable pub question_table : Elements → ℕ → List ℕ

@@ -4,7 +4,7 @@
 
 ghost use Rattle.std.specs.Prelude.{ℕ, ◌≤◌};
 
-use kinvlopt::{Compiled, Fitted, Graded, Written};
+use kinvlopt::{Compiled, Fitted, Graded, Refusal};
 use std::io::Write;
 use std::{fmt, io};
 
@@ -41,11 +41,14 @@ impl From<Fitted> for Told {
     }
 }
 
-impl From<Written> for Told {
-    fn from(written: Written) -> Told {
+impl From<Result<usize, Refusal>> for Told {
+    fn from(written: Result<usize, Refusal>) -> Told {
         match written {
-            Written::File { len } => Told::Bytes(len),
-            Written::Refused { number, place } => Told::Refused { number, place },
+            Ok(len) => Told::Bytes(len),
+            Err(refusal) => Told::Refused {
+                number: refusal.reason.number(),
+                place: refusal.place,
+            },
         }
     }
 }

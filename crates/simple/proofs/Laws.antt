@@ -5,15 +5,10 @@ use mathlib.Core.Bool.{Bool, true, false}
 use mathlib.Core.List.{List, [], ◌∷◌}
 use Prim.Native.Nat.{ℕ, suc, ◌+◌, ◌-◌, ◌<◌, ◌≤◌}
 use native.Mathlib.Omega.{arith}
-use native.Mathlib.Nat.{add-zero}
 use lib.ListN.{length}
 use lib.Dec.{eqb}
 use lib.IntN.{ℤ, pos}
-use borrow.Author.Tests.{eq-eqb, ne_eqb}
 use Rattle.basics.specs.Choice.{pick}
-use Rattle.words.specs.declared.Cursor.{Cursor}
-use Rattle.words.specs.Taken.{Word}
-use Rattle.words.specs.Words.{next_word}
 use Rattle.integers.specs.Integers.{nextℤ}
 use Rattle.grammar.specs.Outcome.{Outcome, ok, no, more, last}
 use Rattle.grammar.specs.Modules.{repeat}
@@ -22,7 +17,7 @@ use Rattle.grammar.proofs.Turns.{past_near, near_from, near_then, near_pick, tur
 use Rattle.judging.specs.Judging.{Meaning, valued, signal, nothing, meaning_of}
 use Rattle.judging.specs.Reading.{State, reads}
 use Rattle.readers.specs.Readers.{inner_of, index_of, expression_of}
-use Rattle.parts.specs.Parts.{used_at, allows, one_more, positioned_in, miscounted_from}
+use Rattle.parts.specs.Parts.{used_at, allows, one_more, miscounted_from}
 use Rattle.parts.proofs.Runs.{none_more}
 use Rattle.simple.specs.Statements.{Target, element, missed, target_on, upward, target_of, assignment_of, gave_of, number_turn, numbers_of, list_of, one_of, position_of, placed_of, behind_of, act_of, simple_of}
 
@@ -121,22 +116,6 @@ module _ (s t : List ℕ) (d : ℕ) where
       (λ b. near-act st e from (one_more x.0 used_at 4096, x.1) l r) (λ b. tt)
 
   -- ---- what the code did, as the definitions say it
-
-  module _ (g : Bool) (f : ℕ) (v z w : ℤ) (at e : ℕ) (x y : State) (k st v' : ℕ) (p : Cursor) (l : List ℕ)
-      (read : ok z e y ≡ expression_of s t d 1 at x) (taken : Word k st v' p ≡ next_word s e)
-      (gave : l ≡ pick g (positioned_in y.0 (f + upward v) z) y.0) (stepped : w ≡ nextℤ v) where
-    pub number_goes : k ≡ 59 → more w p.at (l, y.1) ≡ number_turn s t d g f v at x
-    unfolding number_turn
-    number_goes h = rw (← read, ← taken) (simp (eq-eqb _ _ h, gave, stepped))
-
-    pub number_ends : (k ≡ 59 → ⊥) → k ≡ 93 → last (ok w p.at (l, y.1)) ≡ number_turn s t d g f v at x
-    unfolding number_turn
-    number_ends n h = rw (← read, ← taken) (simp (ne_eqb _ _ n, eq-eqb _ _ h, gave, stepped))
-
-  pub one_goes : (f n : ℕ) (z : ℤ) (at e : ℕ) (x y : State) (l : List ℕ) → ok z e y ≡ expression_of s t d 1 at x → n ≡ 0
-      → l ≡ positioned_in y.0 (f + 0) z → ok (pos 0) e (l, y.1) ≡ one_of s t d f n at x
-  unfolding one_of
-  one_goes f n z at e x y l read h put = rw (← read) (simp (eq-eqb _ _ h, put, add-zero))
 
   pub simple_none : (st e : ℕ) (x : State) (l : List ℕ) (b : Bool) → b ≡ false → b ≡ allows x.0 used_at 4096 → l ≡ one_more x.0 used_at 4096
       → no 6 st (l, x.1) ≡ simple_of s t d st e x

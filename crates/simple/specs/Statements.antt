@@ -1,7 +1,7 @@
 -- Simple statements, carried out where they stand in a text that is of the grammar. Document 01, 'The language we take' and 'Refusal numbers',
 -- order (4): the target before the expression, a name before its index. decisions 12, 16, 19, 20, 22, 23, 26. The state is what the memory of the
 -- circuit holds, and the count of tree nodes in it; the names that stand there are given.
-use Rattle.std.specs.Prelude.{ℕ, suc, ◌+◌, ◌-◌, Bool, true, false, List, [], ◌∷◌, length, get_or, eqb, ℤ, pos, negsuc}
+use Rattle.std.specs.Prelude.{ℕ, suc, ◌+◌, ◌-◌, Bool, true, false, List, [], ◌∷◌, length, get_or, eqb, ℤ, pos, negsuc, Result, Ok, Err}
 use Rattle.basics.specs.Choice.{pick}
 use Rattle.words.specs.Words.{next_word}
 use Rattle.integers.specs.Integers.{nextℤ}
@@ -11,17 +11,18 @@ use Rattle.judging.specs.Judging.{Meaning, valued, signal, nothing, meaning_of}
 use Rattle.judging.specs.Reading.{State}
 use Rattle.readers.specs.Readers.{index_of, expression_of}
 use Rattle.parts.specs.Parts.{used_at, allows, one_more, assigned_in, positioned_in, miscounted_from}
+use Rattle.basics.specs.declared.refusal.Refusal.{Refusal}
+use Rattle.basics.specs.Refusal.{number_of}
 use Rattle.simple.specs.declared.Aim.{Aim}
-use Rattle.simple.specs.declared.Aim.TheVariants.{Element, Missed}
 
 -- the target of an assignment or a position: an element and the place past the target, or a refusal
 pub data Target : Type 0 where
   element : ℕ → ℕ → Target
   missed : ℕ → ℕ → Target
 
-abbrev pub aimed : Aim → Target
-aimed (Element k c) = element k c.at
-aimed (Missed n p) = missed n p
+abbrev pub aimed : Result Aim Refusal → Target
+aimed (Ok a) = element a.element a.next.at
+aimed (Err r) = missed (number_of r.reason) r.place
 
 -- it is read as a signal, into a room of its own for one node, which is 9 + the element: targets count no nodes
 abbrev pub target_on : Outcome State ℤ → Target

@@ -1,89 +1,63 @@
 // Simple statements, carried out where they stand in the text: assignments and positions are written into the memory that is lent.
 #![tactic(auto)]
 
-ghost use Rattle.std.specs.Prelude.{◌≡◌, ◌+◌, ◌-◌, eqb};
+ghost use Rattle.std.specs.Prelude.{◌≡◌, ◌+◌, ◌-◌, Ok, true, false, eqb};
 ghost use Rattle.basics.specs.Choice.{pick};
 ghost use Rattle.integers.specs.Integers.{num};
-ghost use Rattle.judging.specs.Judging.{meaning_of};
+ghost use Rattle.judging.specs.Judging.{meant};
 ghost use Rattle.judging.specs.Reading.{seen, seen_step};
 ghost use Rattle.parts.specs.Parts.{positioned_in};
 ghost use Rattle.simple.specs.Statements.{aimed, upward, target_of, assignment_of, number_turn, numbers_of, list_of, one_of, position_of, placed_of, behind_of, act_of, simple_of};
 
+use basics::refusal::{Reason, Refusal};
 use integers::Num;
-use judging::{Meant, Read, Step};
-use words::{Cursor, Taken};
+use judging::{Meaning, Read, Scope, Sort, Step};
+use words::{Cursor, Kind};
 
-// The target of an assignment or a position.
-#[derive(Clone, Copy)]
-pub enum Aim {
-    Element { element: u32, next: Cursor },
-    Missed { number: u8, place: usize },
+// The target of an assignment or a position: an element, and the cursor past it.
+#[derive(Clone, Copy, Debug, PartialEq, Eq)]
+pub struct Aim {
+    pub element: u32,
+    pub next: Cursor,
 }
 
-// The element that a node names.
-fn element_of(code: u32) -> u32
-    ensures { result ≡ code - 9 }
-{
-    if 9 <= code { code - 9 } else { 0 }
-}
+// How many statements and rounds of a FOR there may be together, and the place of the lent memory that they are counted at.
+const STATEMENTS: u32 = 4096;
+
+const USED_AT: usize = 2585;
 
 // The target whose name is from start on to end.
-fn target(text: &[u8], names: &[u16], start: usize, end: Cursor, depth: usize) -> Aim
-    ensures { aimed result ≡ target_of text.now names.now depth start end.at }
+#[tactic(auto, using(std::proofs::lemmas::Grind::common_steps), unfolding(crate::specs::Statements::target_of))]
+fn target(scope: Scope, start: usize, end: Cursor, depth: usize) -> Result<Aim, Refusal>
+    ensures { aimed result ≡ target_of scope.entry.text.now scope.entry.names.now depth start end.at }
 {
-    let mut one: [u32; 1] = [0; 1];
-    match readers::index(text, names, &mut one, 0, 2, start, end, depth) {
-        Read::Value {
-            value: _,
-            count: _,
-            next,
-        } => Aim::Element {
-            element: element_of(parts::tell(&one, 0)),
-            next,
-        },
-        Read::Refused {
-            number,
-            place,
-            count: _,
-        } => Aim::Missed { number, place },
-    }
+    let mut one = [0u32; 1];
+    let read = readers::index(scope, &mut one, &mut 0, Sort::Signal, start, end, depth)?;
+    Ok(Aim {
+        element: parts::tell(&one, 0).saturating_sub(judging::ELEMENT),
+        next: read.next,
+    })
 }
 
 // Behind `:=`: the equation of an element.
+#[tactic(auto, using(std::proofs::lemmas::Grind::common_steps), unfolding(crate::specs::Statements::assignment_of))]
 fn assignment(
-    text: &[u8],
-    names: &[u16],
+    scope: Scope,
     room: &mut [u32],
-    count: usize,
+    count: &mut usize,
     element: u32,
     from: Cursor,
     depth: usize,
-) -> Read
-    ensures { seen result room.new ≡ assignment_of text.now names.now depth element from.at (room.old, count) }
+) -> Result<Read, Refusal>
+    ensures { seen result (room.new, count.new) ≡ assignment_of scope.entry.text.now scope.entry.names.now depth element from.at (room.old, count.old) }
 {
-    match readers::expression(text, names, room, count, 2, from, depth) {
-        Read::Value {
-            value: _,
-            count: c,
-            next,
-        } => {
-            parts::assign_to(room, element, count, c);
-            Read::Value {
-                value: Num::Up(0),
-                count: c,
-                next,
-            }
-        }
-        Read::Refused {
-            number,
-            place,
-            count: c,
-        } => Read::Refused {
-            number,
-            place,
-            count: c,
-        },
-    }
+    let first = *count;
+    let read = readers::expression(scope, room, count, Sort::Signal, from, depth)?;
+    parts::assign_to(room, element, first, *count);
+    Ok(Read {
+        value: Num::Up(0),
+        ..read
+    })
 }
 
 // A number that counts from 0.
@@ -105,121 +79,58 @@ fn give(room: &mut [u32], on: bool, first: u32, v: Num, value: Num)
     }
 }
 
-// One number of a list.
+// One number of a list, behind what was read of it.
+#[tactic(auto, using(std::proofs::lemmas::Grind::common_steps, words::proofs::Codes::code_other), unfolding(crate::specs::Statements::number_turn))]
 fn number_turn(
-    text: &[u8],
-    names: &[u16],
+    scope: Scope,
     room: &mut [u32],
-    count: usize,
+    count: &mut usize,
     on: bool,
     first: u32,
-    v: Num,
-    from: Cursor,
+    read: Read,
     depth: usize,
-) -> Step
-    ensures { seen_step result room.new ≡ number_turn text.now names.now depth on first (num v) from.at (room.old, count) }
+) -> Result<Step, Refusal>
+    ensures { seen_step result (room.new, count.new) ≡ number_turn scope.entry.text.now scope.entry.names.now depth on first (num read.value) read.next.at (room.old, count.old) }
 {
-    match readers::expression(text, names, room, count, 1, from, depth) {
-        Read::Value {
-            value,
-            count: c,
-            next,
-        } => match next.next(text) {
-            Taken::Word {
-                kind,
-                start,
-                value: _,
-                next: past,
-            } => {
-                if kind == 59 {
-                    give(room, on, first, v, value);
-                    return Step::More {
-                        value: integers::step(v),
-                        count: c,
-                        next: past,
-                    };
-                }
-                if kind == 93 {
-                    give(room, on, first, v, value);
-                    return Step::Last {
-                        value: integers::step(v),
-                        count: c,
-                        next: past,
-                    };
-                }
-                Step::Stop {
-                    number: 2,
-                    place: start,
-                    count: c,
-                }
-            }
-            Taken::Refused { number, place } => Step::Stop {
-                number,
-                place,
-                count: c,
-            },
-        },
-        Read::Refused {
-            number,
-            place,
-            count: c,
-        } => Step::Stop {
-            number,
-            place,
-            count: c,
-        },
+    let number = readers::expression(scope, room, count, Sort::Number, read.next, depth)?;
+    let word = number.next.next(scope.text)?;
+    let past = Read {
+        value: integers::step(read.value),
+        next: word.next,
+    };
+    match word.kind {
+        Kind::Semicolon => {
+            give(room, on, first, read.value, number.value);
+            Ok(Step::More(past))
+        }
+        Kind::CloseSquare => {
+            give(room, on, first, read.value, number.value);
+            Ok(Step::Last(past))
+        }
+        _ => Err(Refusal::new(Reason::Grammar, word.start)),
     }
 }
 
 // The numbers of a list, behind its `[`.
 fn numbers(
-    text: &[u8],
-    names: &[u16],
+    scope: Scope,
     room: &mut [u32],
-    count: usize,
+    count: &mut usize,
     on: bool,
     first: u32,
     from: Cursor,
     depth: usize,
-) -> Read
-    ensures { seen result room.new ≡ numbers_of text.now names.now depth on first from.at (room.old, count) }
+) -> Result<Read, Refusal>
+    ensures { seen result (room.new, count.new) ≡ numbers_of scope.entry.text.now scope.entry.names.now depth on first from.at (room.old, count.old) }
 {
-    let mut v = Num::Up(0);
-    let mut at = from.at;
-    let mut n = count;
+    let mut read = Read {
+        value: Num::Up(0),
+        next: from,
+    };
     loop {
-        match number_turn(text, names, room, n, on, first, v, Cursor { at }, depth) {
-            Step::More {
-                value,
-                count: c,
-                next,
-            } => {
-                v = value;
-                n = c;
-                at = next.at;
-            }
-            Step::Last {
-                value,
-                count: c,
-                next,
-            } => {
-                return Read::Value {
-                    value,
-                    count: c,
-                    next,
-                };
-            }
-            Step::Stop {
-                number,
-                place,
-                count: c,
-            } => {
-                return Read::Refused {
-                    number,
-                    place,
-                    count: c,
-                };
-            }
+        match number_turn(scope, room, count, on, first, read, depth)? {
+            Step::More(past) => read = past,
+            Step::Last(past) => return Ok(past),
         }
     }
 }
@@ -232,264 +143,161 @@ fn width(n: u16) -> u32
 }
 
 // A list, behind its `[`, for n elements from first on.
+#[tactic(auto, using(std::proofs::lemmas::Grind::common_steps), unfolding(crate::specs::Statements::list_of))]
 fn list(
-    text: &[u8],
-    names: &[u16],
+    scope: Scope,
     room: &mut [u32],
-    count: usize,
+    count: &mut usize,
     first: u32,
     n: u16,
     from: Cursor,
     depth: usize,
-) -> Read
-    ensures { seen result room.new ≡ list_of text.now names.now depth first n from.at (room.old, count) }
+) -> Result<Read, Refusal>
+    ensures { seen result (room.new, count.new) ≡ list_of scope.entry.text.now scope.entry.names.now depth first n from.at (room.old, count.old) }
 {
-    match numbers(text, names, room, count, false, first, from, depth) {
-        Read::Value {
-            value,
-            count: c,
-            next,
-        } => {
-            if up(value) == n as u32 {
-                return numbers(text, names, room, c, true, first, from, depth);
-            }
-            parts::miscount(room, first, width(n));
-            Read::Value {
-                value: Num::Up(0),
-                count: c,
-                next,
-            }
-        }
-        Read::Refused {
-            number,
-            place,
-            count: c,
-        } => Read::Refused {
-            number,
-            place,
-            count: c,
-        },
+    let read = numbers(scope, room, count, false, first, from, depth)?;
+    if up(read.value) == n as u32 {
+        return numbers(scope, room, count, true, first, from, depth);
     }
+    parts::miscount(room, first, width(n));
+    Ok(Read {
+        value: Num::Up(0),
+        ..read
+    })
 }
 
 // One number, for n elements from first on.
+#[tactic(auto, using(std::proofs::lemmas::Grind::common_steps), unfolding(crate::specs::Statements::one_of))]
 fn one_number(
-    text: &[u8],
-    names: &[u16],
+    scope: Scope,
     room: &mut [u32],
-    count: usize,
+    count: &mut usize,
     first: u32,
     n: u16,
     from: Cursor,
     depth: usize,
-) -> Read
-    ensures { seen result room.new ≡ one_of text.now names.now depth first n from.at (room.old, count) }
+) -> Result<Read, Refusal>
+    ensures { seen result (room.new, count.new) ≡ one_of scope.entry.text.now scope.entry.names.now depth first n from.at (room.old, count.old) }
 {
-    match readers::expression(text, names, room, count, 1, from, depth) {
-        Read::Value {
-            value,
-            count: c,
-            next,
-        } => {
-            if n == 0 {
-                parts::position_of(room, first, 0, value);
-                return Read::Value {
-                    value: Num::Up(0),
-                    count: c,
-                    next,
-                };
-            }
-            parts::miscount(room, first, n as u32);
-            Read::Value {
-                value: Num::Up(0),
-                count: c,
-                next,
-            }
-        }
-        Read::Refused {
-            number,
-            place,
-            count: c,
-        } => Read::Refused {
-            number,
-            place,
-            count: c,
-        },
+    let read = readers::expression(scope, room, count, Sort::Number, from, depth)?;
+    if n == 0 {
+        parts::position_of(room, first, 0, read.value);
+    } else {
+        parts::miscount(room, first, n as u32);
     }
+    Ok(Read {
+        value: Num::Up(0),
+        ..read
+    })
 }
 
 // Behind `::`, for n elements from first on.
+#[tactic(auto, using(std::proofs::lemmas::Grind::common_steps, words::proofs::Codes::code_other), unfolding(crate::specs::Statements::position_of))]
 fn position(
-    text: &[u8],
-    names: &[u16],
+    scope: Scope,
     room: &mut [u32],
-    count: usize,
+    count: &mut usize,
     first: u32,
     n: u16,
     from: Cursor,
     depth: usize,
-) -> Read
-    ensures { seen result room.new ≡ position_of text.now names.now depth first n from.at (room.old, count) }
+) -> Result<Read, Refusal>
+    ensures { seen result (room.new, count.new) ≡ position_of scope.entry.text.now scope.entry.names.now depth first n from.at (room.old, count.old) }
 {
-    match from.next(text) {
-        Taken::Word {
-            kind,
-            start: _,
-            value: _,
-            next,
-        } => {
-            if kind == 91 {
-                return list(text, names, room, count, first, n, next, depth);
-            }
-            one_number(text, names, room, count, first, n, from, depth)
-        }
-        Taken::Refused { number, place } => Read::Refused {
-            number,
-            place,
-            count,
-        },
+    let word = from.next(scope.text)?;
+    match word.kind {
+        Kind::OpenSquare => list(scope, room, count, first, n, word.next, depth),
+        _ => one_number(scope, room, count, first, n, from, depth),
     }
 }
 
-// Behind `::` of a name without an index.
+// Behind `::` of a name at start without an index, by what it stands for.
 fn place_name(
-    text: &[u8],
-    names: &[u16],
+    scope: Scope,
     room: &mut [u32],
-    count: usize,
+    count: &mut usize,
     start: usize,
-    end: usize,
+    meaning: Option<Meaning>,
     from: Cursor,
     depth: usize,
-) -> Read
-    ensures { seen result room.new ≡ placed_of text.now names.now depth start from.at (room.old, count) (meaning_of text.now names.now start end) }
+) -> Result<Read, Refusal>
+    ensures { seen result (room.new, count.new) ≡ placed_of scope.entry.text.now scope.entry.names.now depth start from.at (room.old, count.old) (meant meaning) }
 {
-    match judging::meaning(text, names, start, end) {
-        Meant::Valued(_) => Read::Refused {
-            number: 4,
-            place: start,
-            count,
-        },
-        Meant::Signal { first, size } => position(
-            text,
-            names,
-            room,
-            count,
-            first as u32,
-            size,
-            from,
-            depth,
-        ),
-        Meant::Nothing => Read::Refused {
-            number: 4,
-            place: start,
-            count,
-        },
+    match meaning {
+        Some(Meaning::Signal(base)) => {
+            position(
+                scope,
+                room,
+                count,
+                base.first as u32,
+                base.size,
+                from,
+                depth,
+            )
+        }
+        Some(Meaning::Value(_)) | None => Err(Refusal::new(Reason::Name, start)),
     }
 }
 
 // Behind a target.
+#[tactic(auto, using(std::proofs::lemmas::Grind::common_steps, words::proofs::Codes::code_other))]
 fn behind(
-    text: &[u8],
-    names: &[u16],
+    scope: Scope,
     room: &mut [u32],
-    count: usize,
+    count: &mut usize,
     aim: Aim,
     depth: usize,
-) -> Read
-    ensures { seen result room.new ≡ behind_of text.now names.now depth (room.old, count) (aimed aim) }
+) -> Result<Read, Refusal>
+    ensures { seen result (room.new, count.new) ≡ behind_of scope.entry.text.now scope.entry.names.now depth (room.old, count.old) (aimed (Ok aim)) }
 {
-    match aim {
-        Aim::Element { element, next } => match next.next(text) {
-            Taken::Word {
-                kind,
-                start,
-                value: _,
-                next: past,
-            } => {
-                if kind == 189 {
-                    return assignment(text, names, room, count, element, past, depth);
-                }
-                if kind == 186 {
-                    return position(text, names, room, count, element, 0, past, depth);
-                }
-                Read::Refused {
-                    number: 2,
-                    place: start,
-                    count,
-                }
-            }
-            Taken::Refused { number, place } => Read::Refused {
-                number,
-                place,
-                count,
-            },
-        },
-        Aim::Missed { number, place } => Read::Refused {
-            number,
-            place,
-            count,
-        },
+    let word = aim.next.next(scope.text)?;
+    match word.kind {
+        Kind::Becomes => assignment(scope, room, count, aim.element, word.next, depth),
+        Kind::Place => position(scope, room, count, aim.element, 0, word.next, depth),
+        _ => Err(Refusal::new(Reason::Grammar, word.start)),
     }
 }
 
 // An assignment or a position whose name is from start on to end.
+#[tactic(auto, using(std::proofs::lemmas::Grind::common_steps, words::proofs::Codes::code_other), unfolding(crate::specs::Statements::act_of))]
 fn act(
-    text: &[u8],
-    names: &[u16],
+    scope: Scope,
     room: &mut [u32],
-    count: usize,
+    count: &mut usize,
     start: usize,
     end: Cursor,
     depth: usize,
-) -> Read
-    ensures { seen result room.new ≡ act_of text.now names.now depth start end.at (room.old, count) }
+) -> Result<Read, Refusal>
+    ensures { seen result (room.new, count.new) ≡ act_of scope.entry.text.now scope.entry.names.now depth start end.at (room.old, count.old) }
 {
-    match end.next(text) {
-        Taken::Word {
-            kind,
-            start: _,
-            value: _,
-            next,
-        } => {
-            if kind == 186 {
-                return place_name(text, names, room, count, start, end.at, next, depth);
-            }
-            behind(
-                text,
-                names,
-                room,
-                count,
-                target(text, names, start, end, depth),
-                depth,
-            )
+    let word = end.next(scope.text)?;
+    match word.kind {
+        Kind::Place => {
+            let meaning = scope.meaning(start, end.at);
+            place_name(scope, room, count, start, meaning, word.next, depth)
         }
-        Taken::Refused { number, place } => Read::Refused {
-            number,
-            place,
-            count,
-        },
+        _ => {
+            let aim = target(scope, start, end, depth)?;
+            behind(scope, room, count, aim, depth)
+        }
     }
 }
 
 // A simple statement: it is counted first.
+#[tactic(auto, using(std::proofs::lemmas::Grind::common_steps), unfolding(crate::specs::Statements::simple_of))]
 pub fn simple(
-    text: &[u8],
-    names: &[u16],
+    scope: Scope,
     room: &mut [u32],
-    count: usize,
+    count: &mut usize,
     start: usize,
     end: Cursor,
     depth: usize,
-) -> Read
-    ensures { seen result room.new ≡ simple_of text.now names.now depth start end.at (room.old, count) }
+) -> Result<Read, Refusal>
+    ensures { seen result (room.new, count.new) ≡ simple_of scope.entry.text.now scope.entry.names.now depth start end.at (room.old, count.old) }
 {
-    if parts::one_more(room, 2585, 4096) {
-        return act(text, names, room, count, start, end, depth);
-    }
-    Read::Refused {
-        number: 6,
-        place: start,
-        count,
+    if parts::one_more(room, USED_AT, STATEMENTS) {
+        act(scope, room, count, start, end, depth)
+    } else {
+        Err(Refusal::new(Reason::Limit, start))
     }
 }

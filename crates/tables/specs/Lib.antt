@@ -1,3 +1,4 @@
 pub mod Tables
 pub mod Memory
 pub mod Answered
+pub mod Ready

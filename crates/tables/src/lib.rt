@@ -18,6 +18,7 @@ ghost use Rattle.meaning.specs.Settle.{Ordered, rank_in};
 ghost use Rattle.tables.specs.Tables.{flip_at, set_bits, setting_at, outcome, tabled, table_in};
 ghost use Rattle.tables.specs.Memory.{InOrder, Pins};
 ghost use Rattle.tables.specs.Answered.{seen};
+ghost use Rattle.tables.specs.Ready.{Ready, entry_at};
 
 use basics::refusal::{Reason, Refusal};
 use pins::Chosen;
@@ -67,11 +68,7 @@ fn is_flipped(parts: &[u32], rows: bool, p: usize) -> bool
 fn flips(parts: &[u32], rows: bool) -> [u8; 24]
     ensures { result ≡ listed (λ p. bit (flip_at (elements_of parts.now) rows p)) 24 }
 {
-    let mut a = [0u8; 24];
-    for p in 0..24 {
-        a[p] = basics::byte_of(is_flipped(parts, rows, p));
-    }
-    a
+    circuit::bits(|p| is_flipped(parts, rows, p))
 }
 
 // The pins where the variables are the bits of k.
@@ -100,11 +97,7 @@ fn is_known(parts: &[u32], pins: &[u8], i: usize) -> bool
 fn known_values(parts: &[u32], pins: &[u8]) -> [u8; 64]
     ensures { result ≡ listed (λ i. bit (known (elements_of parts.now) (env_of pins.now) i)) 64 }
 {
-    let mut a = [0u8; 64];
-    for i in 0..64 {
-        a[i] = basics::byte_of(is_known(parts, pins, i));
-    }
-    a
+    circuit::bits(|i| is_known(parts, pins, i))
 }
 
 // The values of all elements.
@@ -130,49 +123,38 @@ fn result(parts: &[u32], rows: bool, o: usize, pins: &[u8; 24], vals: &[u8; 64])
     if rows { inverted != v } else { v }
 }
 
-// Entry k of the table of o.
-fn entry(
-    parts: &[u32],
-    order: &[u8],
+// The function of OUT o over the pins vars, for rows or for the question; its elements get their values in order, and flips says which variables
+// are complements.
+#[derive(Clone, Copy)]
+struct Function<'a> {
+    parts: &'a [u32],
+    order: &'a [u8],
     flips: [u8; 24],
-    vars: &[u8],
+    vars: &'a [u8],
     rows: bool,
     o: usize,
-    k: usize,
-) -> bool
-    requires parts_value { stage_five (elements_of parts.now) ≡ fine }
-    requires in_order { InOrder (elements_of parts.now) order.now }
-    requires flips_value { flips ≡ listed (λ p. bit (flip_at (elements_of parts.now) rows p)) 24 }
-    requires pins { Pins vars.now }
-    requires o_bound { o < 64 }
-    ensures { result ≡ outcome (elements_of parts.now) rows o (setting_at (elements_of parts.now) rows vars.now k) }
-{
-    let pins = pins_of(flips, vars, k);
-    let vals = all_values(parts, order, &pins);
-    result(parts, rows, o, &pins, &vals)
 }
 
-// The table of o over the variables.
-fn fill(
-    t: &mut [u8],
-    size: usize,
-    parts: &[u32],
-    order: &[u8],
-    flips: [u8; 24],
-    vars: &[u8],
-    rows: bool,
-    o: usize,
-)
-    requires parts_value { stage_five (elements_of parts.now) ≡ fine }
-    requires in_order { InOrder (elements_of parts.now) order.now }
-    requires flips_value { flips ≡ listed (λ p. bit (flip_at (elements_of parts.now) rows p)) 24 }
-    requires pins { Pins vars.now }
-    requires o_bound { o < 64 }
-    requires size_in_bounds { size ≤ length t.old }
-    ensures { t.new ≡ listed (λ k. bit (outcome (elements_of parts.now) rows o (setting_at (elements_of parts.now) rows vars.now k))) size ++ drop size t.old }
-{
-    for k in 0..size {
-        t[k] = basics::byte_of(entry(parts, order, flips, vars, rows, o, k));
+impl Function<'_> {
+    // Entry k of its table.
+    fn entry(&self, k: usize) -> bool
+        requires { Ready self.now }
+        ensures { result ≡ entry_at self.now k }
+    {
+        let pins = pins_of(self.flips, self.vars, k);
+        let vals = all_values(self.parts, self.order, &pins);
+        result(self.parts, self.rows, self.o, &pins, &vals)
+    }
+
+    // Its table over so many settings.
+    fn fill(&self, t: &mut [u8], size: usize)
+        requires ready { Ready self.now }
+        requires size_in_bounds { size ≤ length t.old }
+        ensures { t.new ≡ listed (λ k. bit (entry_at self.now k)) size ++ drop size t.old }
+    {
+        for k in 0..size {
+            t[k] = basics::byte_of(self.entry(k));
+        }
     }
 }
 
@@ -188,8 +170,15 @@ fn tabulate(t: &mut [u8], size: usize, parts: &[u32], m: &[u8], vars: &[u8], row
     let ranks = meaning::ranks(m);
     let mut order = [0u8; 4160];
     let n = meaning::order(parts, &ranks, &mut order);
-    let f = flips(parts, rows);
-    fill(t, size, parts, &order[0..n], f, vars, rows, o);
+    let function = Function {
+        parts,
+        order: &order[..n],
+        flips: flips(parts, rows),
+        vars,
+        rows,
+        o,
+    };
+    function.fill(t, size);
 }
 
 // The truth table of OUT o, for rows or for the question: its variables, or a refusal where its equation names too many pins.

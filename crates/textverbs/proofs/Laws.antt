@@ -5,11 +5,11 @@ use mathlib.Core.List.{List}
 use Prim.Native.Nat.{ℕ, ◌≤◌}
 use lib.ListN.{length}
 use borrow.Author.Tests.{le-leb}
+use Rattle.std.specs.Prelude.{Result, Ok, Err}
 use Rattle.basics.specs.Choice.{pick}
+use Rattle.basics.specs.Refusal.{Numbered, refused}
 use Rattle.fusetext.specs.Outcome.{Outcome, gives, refuses, left}
 use Rattle.fusetext.specs.Put.{Wrote}
-use Rattle.fusewrite.specs.declared.Written.{Written}
-use Rattle.fusewrite.specs.declared.Written.TheVariants.{File as Stands, Refused as Fails}
 use Rattle.fusewrite.specs.Writing.{written_of}
 use Rattle.lines.specs.Decimal.{refusal_line}
 use Rattle.texts.specs.Stages.{whole_of}
@@ -23,7 +23,7 @@ use Rattle.compilecall.specs.Compiling.{compiled_as, Compiles}
 use Rattle.fitcall.specs.declared.Fitted.{Fitted}
 use Rattle.fitcall.specs.declared.Fitted.TheVariants.{Lines, Refused as Misfits}
 use Rattle.fitcall.specs.Fitting.{lined, fitted_as, Fits}
-use Rattle.question.specs.declared.Asked.TheVariants.{Refused as Refuses}
+use Rattle.question.specs.Question.Asked.{Refused as Refuses}
 use Rattle.askcall.specs.declared.Graded.{Graded}
 use Rattle.askcall.specs.Asking.{grade_of, questioned, graded_of, Asks}
 use Rattle.verbs.proofs.Files.{bytes_printed, refusal_printed}
@@ -32,7 +32,7 @@ use Rattle.textverbs.specs.Answers.{compile_answer, fit_answer, grade_line, ask_
 -- ---- compile and fit
 
 -- what is lent is enough, so that it does not matter how much more it is; and an answer that tells what the writer's would
-module _ {A : Type 0} (told : Outcome → A) (back : A → Written) (says : List ℕ → List ℕ) where
+module _ {A : Type 0} (told : Outcome → A) (back : A → Result ℕ Numbered) (says : List ℕ → List ℕ) where
   pub tells : (s out room : List ℕ) (a : A) (after y : List ℕ) → ((o : Outcome) → back (told o) ≡ written_of o) → 7154 ≤ length out → 65536 ≤ length room
       → Does told (called says s (length out) (length room)) out room a after y → back a ≡ written_of (written says (whole_of s))
   tells s out room a after y w h k d = ap back (d.answers ∙ ap told (called_lent says s (length out) (length room) h k)) ∙ w (written says (whole_of s))
@@ -42,17 +42,17 @@ module _ {A : Type 0} (told : Outcome → A) (back : A → Written) (says : List
   leaves_it s out room a after y h k d = d.leaves ∙ ap (λ (o : Outcome). left o out) (called_lent says s (length out) (length room) h k)
 
 -- the answers as the writer's
-abbrev of_compiled : Compiled → Written
-of_compiled (File n) = Stands n
-of_compiled (Refused n p) = Fails n p
+abbrev of_compiled : Compiled → Result ℕ Numbered
+of_compiled (File n) = Ok n
+of_compiled (Refused n p) = refused n p
 
 of_compiled_lem : (o : Outcome) → of_compiled (compiled_as o) ≡ written_of o
 of_compiled_lem (gives bytes) = refl
 of_compiled_lem (refuses n p) = refl
 
-abbrev of_fitted : Fitted → Written
-of_fitted (Lines n) = Stands n
-of_fitted (Misfits n p) = Fails n p
+abbrev of_fitted : Fitted → Result ℕ Numbered
+of_fitted (Lines n) = Ok n
+of_fitted (Misfits n p) = refused n p
 
 of_fitted_lem : (o : Outcome) → of_fitted (fitted_as o) ≡ written_of o
 of_fitted_lem (gives bytes) = refl

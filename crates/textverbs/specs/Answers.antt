@@ -2,8 +2,8 @@
 -- refusal is its line. Assumes nothing.
 use Rattle.std.specs.Prelude.{List, ◌∷◌, ℕ, ◌+◌}
 use Rattle.basics.specs.Text.{text}
-use Rattle.question.specs.declared.Asked.{Asked}
-use Rattle.question.specs.declared.Asked.TheVariants.{Verdict, Refused}
+use Rattle.question.specs.Question.{Asked}
+use Rattle.question.specs.Question.Asked.{Verdict, Refused}
 use Rattle.lines.specs.Decimal.{refusal_line}
 use Rattle.texts.specs.Stages.{whole_of}
 use Rattle.texts.specs.Calls.{filed}

@@ -1,5 +1,5 @@
 -- Reserved words: a search of the table gives what the definitions by length give. Assumes nothing.
-use Rattle.std.proofs.Common.{◌≡◌, ℕ, zero, suc, ◌+◌, ◌-◌, ◌<◌, ◌≤◌, refl, sym, ap, ◌∙◌, Bool, true, false, ◌&&◌, List, [], ◌∷◌, length, get_or, take, drop, eqb, Bor, add-one, arith, drop-cons}
+use Rattle.std.proofs.Common.{◌≡◌, ℕ, zero, suc, ◌+◌, ◌-◌, ◌<◌, ◌≤◌, refl, sym, ap, ◌∙◌, Bool, true, false, ◌&&◌, List, [], ◌∷◌, ◌++◌, length, get_or, take, drop, eqb, Bor, add-one, arith, drop-cons}
 use lib.Dec.{eqb-zero-suc, eqb-suc-zero, eqb-suc-suc}
 use lib.ListN.{drop_of_length-le, length-drop}
 use lib.Seq.{take-nil, length-take-le}
@@ -9,23 +9,8 @@ use Rattle.basics.specs.Choice.{pick}
 use Rattle.basics.specs.Text.{text}
 use Rattle.words.specs.declared.Kind.{Kind}
 use Rattle.words.specs.declared.Kind.TheVariants.{Do, In, Ts, Oc, Sr, If, For, End, Div, Mod, Mux, Reg, Out, Var, Bit, «Type», Then, Else, Const, Begin, Inout, Latch, Clock, Elsif, Module, Import}
-use Rattle.words.specs.Kinds.{code}
+use Rattle.words.specs.Kinds.{code, listed, looked}
 use Rattle.words.specs.Words.{prefixed, of_two, of_three, of_four, of_five, of_six, keyword_of}
-
--- the kind of a name by a table of words
-unfoldable pub listed : List ℕ → List (List ℕ × Kind) → ℕ
-listed s [] = 1
-listed s (e ∷ t) =
-    let r : ℕ = listed s t in
-    pick (pointwise eqb s e.0) (code e.1) r
-
--- and by the words behind references
-abbrev pub stripped : List (Bor (List ℕ) × Kind) → List (List ℕ × Kind)
-stripped [] = []
-stripped (e ∷ t) = (e.0.now, e.1) ∷ stripped t
-
-abbrev pub looked : List ℕ → List (Bor (List ℕ) × Kind) → ℕ
-looked s t = listed s (stripped t)
 
 equal_prefixed : (s w : List ℕ) → pointwise eqb s w ≡ (eqb (length s) (length w) && prefixed w s)
 unfolding prefixed
@@ -51,35 +36,24 @@ unfolding listed nested
 listed_nested s [] = refl
 listed_nested s (e ∷ t) = rw (equal_prefixed s e.0, listed_nested s t) refl
 
+abbrev two : List (List ℕ × Kind)
+two = (text "DO", Do) ∷ (text "IN", In) ∷ (text "TS", Ts) ∷ (text "OC", Oc) ∷ (text "SR", Sr) ∷ (text "IF", If) ∷ []
+
+abbrev three : List (List ℕ × Kind)
+three = (text "FOR", For) ∷ (text "END", End) ∷ (text "DIV", Div) ∷ (text "MOD", Mod) ∷ (text "MUX", Mux) ∷ (text "REG", Reg) ∷ (text "OUT", Out) ∷ (text "VAR", Var) ∷ (text "BIT", Bit) ∷ []
+
+abbrev four : List (List ℕ × Kind)
+four = (text "TYPE", «Type») ∷ (text "THEN", Then) ∷ (text "ELSE", Else) ∷ []
+
+abbrev five : List (List ℕ × Kind)
+five = (text "CONST", Const) ∷ (text "BEGIN", Begin) ∷ (text "INOUT", Inout) ∷ (text "LATCH", Latch) ∷ (text "CLOCK", Clock) ∷ (text "ELSIF", Elsif) ∷ []
+
+abbrev six : List (List ℕ × Kind)
+six = (text "MODULE", Module) ∷ (text "IMPORT", Import) ∷ []
+
+-- the words of all lengths
 abbrev table : List (List ℕ × Kind)
-table =
-    (text "DO", Do)
-    ∷ (text "IN", In)
-    ∷ (text "TS", Ts)
-    ∷ (text "OC", Oc)
-    ∷ (text "SR", Sr)
-    ∷ (text "IF", If)
-    ∷ (text "FOR", For)
-    ∷ (text "END", End)
-    ∷ (text "DIV", Div)
-    ∷ (text "MOD", Mod)
-    ∷ (text "MUX", Mux)
-    ∷ (text "REG", Reg)
-    ∷ (text "OUT", Out)
-    ∷ (text "VAR", Var)
-    ∷ (text "BIT", Bit)
-    ∷ (text "TYPE", «Type»)
-    ∷ (text "THEN", Then)
-    ∷ (text "ELSE", Else)
-    ∷ (text "CONST", Const)
-    ∷ (text "BEGIN", Begin)
-    ∷ (text "INOUT", Inout)
-    ∷ (text "LATCH", Latch)
-    ∷ (text "CLOCK", Clock)
-    ∷ (text "ELSIF", Elsif)
-    ∷ (text "MODULE", Module)
-    ∷ (text "IMPORT", Import)
-    ∷ []
+table = two ++ (three ++ (four ++ (five ++ six)))
 
 by_length : (n : ℕ) (s : List ℕ) → nested n s table ≡ keyword_of s n
 unfolding nested keyword_of of_two of_three of_four of_five of_six
@@ -99,8 +73,31 @@ by_length (suc (suc (suc (suc (suc (suc (suc n))))))) s =
     let e6 : eqb m 6 ≡ false = ne_eqb _ _ (λ e. omega arith) in
     simp (e2, e3, e4, e5, e6)
 
-pub table_says : (s : List ℕ) → listed s table ≡ keyword_of s (length s)
-table_says s = listed_nested s table ∙ by_length (length s) s
+-- the words of its length alone say what a name is
+module _ (s : List ℕ) where
+  pub two_says : length s ≡ 2 → listed s two ≡ keyword_of s (length s)
+  unfolding nested keyword_of of_two
+  two_says e = listed_nested s two ∙ rw e refl
+
+  pub three_says : length s ≡ 3 → listed s three ≡ keyword_of s (length s)
+  unfolding nested keyword_of of_three
+  three_says e = listed_nested s three ∙ rw e refl
+
+  pub four_says : length s ≡ 4 → listed s four ≡ keyword_of s (length s)
+  unfolding nested keyword_of of_four
+  four_says e = listed_nested s four ∙ rw e refl
+
+  pub five_says : length s ≡ 5 → listed s five ≡ keyword_of s (length s)
+  unfolding nested keyword_of of_five
+  five_says e = listed_nested s five ∙ rw e refl
+
+  pub six_says : length s ≡ 6 → listed s six ≡ keyword_of s (length s)
+  unfolding nested keyword_of of_six
+  six_says e = listed_nested s six ∙ rw e refl
+
+  pub other_says : (length s ≡ 2 → ⊥) → (length s ≡ 3 → ⊥) → (length s ≡ 4 → ⊥) → (length s ≡ 5 → ⊥) → (length s ≡ 6 → ⊥) → 1 ≡ keyword_of s (length s)
+  unfolding keyword_of
+  other_says a b c d e = simp (ne_eqb _ _ a, ne_eqb _ _ b, ne_eqb _ _ c, ne_eqb _ _ d, ne_eqb _ _ e)
 
 -- a name alone, and with what stands behind it
 prefixed_take : (w s : List ℕ) (n : ℕ) → length w ≤ n → prefixed w (take n s) ≡ prefixed w s

@@ -1,6 +1,8 @@
 -- Words by kind, and their kinds by number: 0 the end, 1 a name, 2 a number, 3 a logic value, 4 a literal above 65,535, a symbol of one byte by that
 -- byte, 174 `..`, 186 `::`, 189 `:=`, reserved words from 200 on. Assumes nothing.
-use Rattle.std.specs.Prelude.{ℕ, ◌+◌, ◌||◌, List, drop, get_or, eqb, ltb, Result, Ok, Err, Option, Some, None}
+use lib.Pointwise.{pointwise}
+use Rattle.std.specs.Borrow.{Bor}
+use Rattle.std.specs.Prelude.{ℕ, ◌+◌, ◌||◌, drop, get_or, eqb, ltb, List, [], ◌∷◌, Result, Ok, Err, Option, Some, None}
 use Rattle.basics.specs.Choice.{pick}
 use Rattle.basics.specs.Refusal.{number_of}
 use Rattle.basics.specs.declared.refusal.Refusal.{Refusal}
@@ -99,3 +101,18 @@ symbol_at s p =
 -- the value of the literal in front, where it is not above 65,535
 unfoldable pub literal_of : List ℕ → Option ℕ
 literal_of s = let v : ℕ = value_of 0 s in pick (ltb 65535 v) None (Some v)
+
+-- the kind of a name by a table of words
+unfoldable pub listed : List ℕ → List (List ℕ × Kind) → ℕ
+listed s [] = 1
+listed s (e ∷ t) =
+    let r : ℕ = listed s t in
+    pick (pointwise eqb s e.0) (code e.1) r
+
+-- and by the words behind references
+abbrev pub stripped : List (Bor (List ℕ) × Kind) → List (List ℕ × Kind)
+stripped [] = []
+stripped (e ∷ t) = (e.0.now, e.1) ∷ stripped t
+
+abbrev pub looked : List ℕ → List (Bor (List ℕ) × Kind) → ℕ
+looked s t = listed s (stripped t)

@@ -1,6 +1,5 @@
-use mathlib.Core.Path.{sym, ap, ◌∙◌}
+use mathlib.Core.Path.{sym}
 use native.Mathlib.Omega.{arith}
-use Rattle.outmap.specs.Sixth.{seen}
 use Rattle.askcall.proofs.Laws.{zeros_long, asked_fits, asked_misfits}
 use borrow.Author.Rules.{rules}
 use Rattle.askcall.proofs.ask_parts.Goals as goal
@@ -16,14 +15,14 @@ map_outputs-requires c = let h = c.requires.in_bounds in record {
 pub ask_fitted-requires : goal.ask_fitted-requires
 ask_fitted-requires c = let h = c.requires.in_bounds in record {
   parts_value = c.requires.parts_value;
-  parts_value_2 = sym (ap seen (sym c.in-Fine.is) ∙ c.map_outputs.ensures.result_value);
+  parts_value_2 = sym c.in-Ok.ensures.result_value;
   in_bounds = zeros_long 59049 c.args.room.now _ c.map_outputs.ensures.room_after (omega arith);
 }
 
-pub returns-in-Fine : goal.returns-in-Fine
-returns-in-Fine c =
-    asked_fits _ _ _ _ _ _ _ (ap seen (sym c.in-Fine.is) ∙ c.map_outputs.ensures.result_value) c.map_outputs.ensures.room_after c.ask_fitted.ensures.result_value c.ask_fitted.ensures.room_after
+pub returns-in-Ok : goal.returns-in-Ok
+returns-in-Ok c =
+    asked_fits _ _ _ _ _ _ _ c.in-Ok.ensures.result_value c.map_outputs.ensures.room_after c.ask_fitted.ensures.result_value c.ask_fitted.ensures.room_after
 
-pub returns-in-Refused : goal.returns-in-Refused
-returns-in-Refused c =
-    asked_misfits _ _ _ _ _ _ _ (ap seen (sym c.in-Refused.is) ∙ c.map_outputs.ensures.result_value) c.map_outputs.ensures.room_after
+pub returns-in-Err : goal.returns-in-Err
+returns-in-Err c =
+    rw c.number.ensures (asked_misfits _ _ _ _ _ _ _ c.in-Err.ensures.result_value c.map_outputs.ensures.room_after)

@@ -1,26 +1,9 @@
-use Rattle.lines.proofs.Ends.{fuses_next, fuses_none, length_fuses}
-use Rattle.lines.specs.Line.{fuses_in}
-use Rattle.fusetext.proofs.Puts.{put_turn, put_done}
-use lib.ListN.{drop, length-set}
-use Prim.Native.Nat.{ℕ, ◌+◌}
-use mathlib.Core.Path.{refl, sym, ap, ◌∙◌}
-use native.Mathlib.Omega.{arith}
-use mathlib.Core.List.{◌∷◌}
+use borrow.Author.Rules.{rules}
+use lib.Dec.{eqb}
+use Rattle.basics.specs.Choice.{pick}
+use Rattle.fusetext.proofs.Puts.{wrote_as}
+use Rattle.lines.proofs.Ends.{map_fuses}
 use Rattle.lines.proofs.put_fuses_in.Goals as goal
 
-pub loop-j-init : goal.loop-j-init
-loop-j-init c = (refl, refl)
-
-pub loop-j-preserved : goal.loop-j-preserved
-loop-j-preserved c = let s = c.args.src.now in
-    let j = c.loop-j.j in (
-      put_turn _ _ _ c.loop-j.invariant.0 (fuses_next s j (omega arith) ∙ ap (λ (x : ℕ). x ∷ fuses_in (drop (j + 1) s)) (sym c.fuse_in.ensures)) (omega arith),
-      simp length-set c.loop-j.invariant.1,
-    )
-
 pub returns : goal.returns
-returns c = record {
-  room = simp length_fuses (omega arith);
-  holds = put_done _ _ c.loop-j.invariant.0 (fuses_none c.args.src.now c.loop-j.j (omega arith));
-  ends = simp length_fuses (omega arith);
-}
+returns c = wrote_as (c.put_each.ensures (λ x. pick (eqb x 48) 0 (pick (eqb x 49) 1 2)) (λ x y h q. search rules)) (map_fuses c.args.src.now)

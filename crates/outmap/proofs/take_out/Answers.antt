@@ -1,61 +1,69 @@
-use Prim.Native.Nat.{ℕ, ◌-◌}
-use Rattle.basics.specs.Choice.{bit}
-use Rattle.outputs.specs.declared.Tried.{Tried}
-use Rattle.outputs.proofs.Trying.{out_pin}
-use Rattle.outmap.proofs.Turns.{no_out, number_is, no_number, not_first, first_fills, left_out, put_in, tried_fit, out_few}
-use Rattle.trees.specs.Layout.{elements_of}
-use mathlib.Core.Path.{sym, ap, ◌∙◌}
+use Prim.Native.Nat.{ℕ, ◌-◌, ◌≤◌, ◌<◌}
+use mathlib.Core.Path.{◌≡◌, sym, ap, ◌∙◌}
 use native.Mathlib.Omega.{arith}
 use borrow.Author.Rules.{rules}
+use borrow.Author.Tests.{eqb-true}
+use Rattle.trees.specs.Layout.{elements_of}
+use Rattle.outputs.proofs.Trying.{out_pin}
+use Rattle.outmap.proofs.Turns.{no_out, refused_out, fitted_is, out_few, not_first, first_fills, none_placed, now_placed}
 use Rattle.outmap.proofs.take_out.Goals as goal
+use Rattle.outmap.proofs.take_out.Goals.{After-try_out, In_ok-fitted}
 
-pub returns-then-class_of-ne2 : goal.returns-then-class_of-ne2
-returns-then-class_of-ne2 c = record {
-  value = (no_out (elements_of c.args.parts.now) c.args.i (λ z. c.if-class_of-ne2.true (c.class_of.ensures ∙ z))).0;
-  room_unchanged = search rules;
-  all_after = left_out (elements_of c.args.parts.now) c.args.i _ _ (no_out (elements_of c.args.parts.now) c.args.i (λ z. c.if-class_of-ne2.true (c.class_of.ensures ∙ z))).1;
-  counts_after = left_out (elements_of c.args.parts.now) c.args.i _ _ (no_out (elements_of c.args.parts.now) c.args.i (λ z. c.if-class_of-ne2.true (c.class_of.ensures ∙ z))).1;
-  s0s_after = left_out (elements_of c.args.parts.now) c.args.i _ _ (no_out (elements_of c.args.parts.now) c.args.i (λ z. c.if-class_of-ne2.true (c.class_of.ensures ∙ z))).1;
-}
+class : (c : After-try_out) → (elements_of c.args.parts.now).class c.args.i ≡ 2
+class c = eqb-true _ _ (sym c.is_out.ensures ∙ c.if-not-is_out.false)
 
-pub returns-then-number-ne0 : goal.returns-then-number-ne0
-returns-then-number-ne0 c = record {
-  value = number_is (elements_of c.args.parts.now) c.args.i _ (sym c.class_of.ensures ∙ c.if-class_of-ne2.false) c.try_out-t.ensures.value;
-  room_unchanged = c.try_out-t.ensures.room_unchanged;
-  all_after = left_out (elements_of c.args.parts.now) c.args.i _ _ (no_number (elements_of c.args.parts.now) c.args.i _ c.try_out-t.ensures.value c.if-number-ne0.true);
-  counts_after = left_out (elements_of c.args.parts.now) c.args.i _ _ (no_number (elements_of c.args.parts.now) c.args.i _ c.try_out-t.ensures.value c.if-number-ne0.true);
-  s0s_after = left_out (elements_of c.args.parts.now) c.args.i _ _ (no_number (elements_of c.args.parts.now) c.args.i _ c.try_out-t.ensures.value c.if-number-ne0.true);
-}
+-- the cell of an OUT's pin
+cell : (c : After-try_out) → (14 ≤ (elements_of c.args.parts.now).pin c.args.i) × ((elements_of c.args.parts.now).pin c.args.i < 24)
+cell c = out_pin (elements_of c.args.parts.now) c.args.i c.requires.parts_value c.requires.i_bound (class c)
 
-pub bounds-all-k : goal.bounds-all-k
-bounds-all-k c = let p = out_pin (elements_of c.args.parts.now) c.args.i c.requires.parts_value c.requires.i_bound (sym c.class_of.ensures ∙ c.if-class_of-ne2.false) in let a = c.at-k.ensures in omega (arith, p.0, p.1, a)
+pub returns-then-not-is_out-clause-value : goal.returns-then-not-is_out-clause-value
+returns-then-not-is_out-clause-value c = (no_out (elements_of c.args.parts.now) c.args.i (sym c.is_out.ensures ∙ c.if-not-is_out.true)).0
 
-pub bounds-counts-k : goal.bounds-counts-k
-bounds-counts-k c = let p = out_pin (elements_of c.args.parts.now) c.args.i c.requires.parts_value c.requires.i_bound (sym c.class_of.ensures ∙ c.if-class_of-ne2.false) in let a = c.at-k.ensures in omega (arith, p.0, p.1, a)
+pub returns-then-not-is_out-clause-cells_after : goal.returns-then-not-is_out-clause-cells_after
+returns-then-not-is_out-clause-cells_after c = none_placed _ _ _ (no_out (elements_of c.args.parts.now) c.args.i (sym c.is_out.ensures ∙ c.if-not-is_out.true)).1
 
-pub bounds-s0s-k : goal.bounds-s0s-k
-bounds-s0s-k c = let p = out_pin (elements_of c.args.parts.now) c.args.i c.requires.parts_value c.requires.i_bound (sym c.class_of.ensures ∙ c.if-class_of-ne2.false) in let a = c.at-k.ensures in omega (arith, p.0, p.1, a)
+pub returns-in_err-fitted-clause-value : goal.returns-in_err-fitted-clause-value
+returns-in_err-fitted-clause-value c =
+    let w = (refused_out (elements_of c.args.parts.now) c.args.i _ (class (goal.at.returns-in_err-fitted-clause-value c).After-try_out) c.in_err-fitted.ensures.value).0 in
+    search (rules, w)
 
-pub returns-then-is_first : goal.returns-then-is_first
-returns-then-is_first c = record {
-  value = sym c.if-number-ne0.false ∙ number_is (elements_of c.args.parts.now) c.args.i _ (sym c.class_of.ensures ∙ c.if-class_of-ne2.false) c.try_out-t.ensures.value;
-  room_unchanged = c.try_out-t.ensures.room_unchanged;
-  all_after = put_in (elements_of c.args.parts.now) c.args.i _ c.args.all.now _ _ (first_fills (elements_of c.args.parts.now) c.args.i _ _ (sym c.class_of.ensures ∙ c.if-class_of-ne2.false) c.try_out-t.ensures.value c.if-number-ne0.false c.is_first.ensures c.if-is_first.true) (ap (λ (x : ℕ). 23 - x) c.at-k.ensures) (ap (λ (x : Tried). x.masks) (tried_fit (elements_of c.args.parts.now) c.args.i _ c.try_out-t.ensures.value c.if-number-ne0.false));
-  counts_after = put_in (elements_of c.args.parts.now) c.args.i _ c.args.counts.now _ _ (first_fills (elements_of c.args.parts.now) c.args.i _ _ (sym c.class_of.ensures ∙ c.if-class_of-ne2.false) c.try_out-t.ensures.value c.if-number-ne0.false c.is_first.ensures c.if-is_first.true) (ap (λ (x : ℕ). 23 - x) c.at-k.ensures) (ap (λ (x : Tried). x.n) (tried_fit (elements_of c.args.parts.now) c.args.i _ c.try_out-t.ensures.value c.if-number-ne0.false));
-  s0s_after = put_in (elements_of c.args.parts.now) c.args.i _ c.args.s0s.now _ _ (first_fills (elements_of c.args.parts.now) c.args.i _ _ (sym c.class_of.ensures ∙ c.if-class_of-ne2.false) c.try_out-t.ensures.value c.if-number-ne0.false c.is_first.ensures c.if-is_first.true) (ap (λ (x : ℕ). 23 - x) c.at-k.ensures) (c.byte_of.ensures ∙ ap (λ (x : Tried). bit x.s0) (tried_fit (elements_of c.args.parts.now) c.args.i _ c.try_out-t.ensures.value c.if-number-ne0.false));
-}
-
-pub returns : goal.returns
-returns c = record {
-  value = sym c.if-number-ne0.false ∙ number_is (elements_of c.args.parts.now) c.args.i _ (sym c.class_of.ensures ∙ c.if-class_of-ne2.false) c.try_out-t.ensures.value;
-  room_unchanged = c.try_out-t.ensures.room_unchanged;
-  all_after = left_out (elements_of c.args.parts.now) c.args.i _ _ (not_first (elements_of c.args.parts.now) c.args.i _ c.is_first.ensures c.if-is_first.false);
-  counts_after = left_out (elements_of c.args.parts.now) c.args.i _ _ (not_first (elements_of c.args.parts.now) c.args.i _ c.is_first.ensures c.if-is_first.false);
-  s0s_after = left_out (elements_of c.args.parts.now) c.args.i _ _ (not_first (elements_of c.args.parts.now) c.args.i _ c.is_first.ensures c.if-is_first.false);
-}
+pub returns-in_err-fitted-clause-cells_after : goal.returns-in_err-fitted-clause-cells_after
+returns-in_err-fitted-clause-cells_after c =
+    none_placed _ _ _ (refused_out (elements_of c.args.parts.now) c.args.i _ (class (goal.at.returns-in_err-fitted-clause-cells_after c).After-try_out) c.in_err-fitted.ensures.value).1
 
 pub overflow_sub-k : goal.overflow_sub-k
-overflow_sub-k c = let p = out_pin (elements_of c.args.parts.now) c.args.i c.requires.parts_value c.requires.i_bound (sym c.class_of.ensures ∙ c.if-class_of-ne2.false) in let a = c.at-k.ensures in omega (arith, p.0, p.1, a)
+overflow_sub-k c = let p = cell (goal.at.overflow_sub-k c).After-try_out in omega (arith, p, c.at-k.ensures)
 
-pub overflow_cast-counts : goal.overflow_cast-counts
-overflow_cast-counts c = let p = out_few (elements_of c.args.parts.now) c.args.i c.requires.parts_value c.requires.i_bound (sym c.class_of.ensures ∙ c.if-class_of-ne2.false) in let q = ap (λ (x : Tried). x.n) (tried_fit (elements_of c.args.parts.now) c.args.i _ c.try_out-t.ensures.value c.if-number-ne0.false) in omega (arith, p, q)
+pub bounds-cells-k : goal.bounds-cells-k
+bounds-cells-k c = let p = cell (goal.at.bounds-cells-k c).After-try_out in omega (arith, p, c.at-k.ensures)
+
+pub bounds-cells-k-then-is_first : goal.bounds-cells-k-then-is_first
+bounds-cells-k-then-is_first c = let p = cell (goal.at.bounds-cells-k-then-is_first c).After-try_out in omega (arith, p, c.at-k.ensures)
+
+pub bounds-cells-k-then-is_first-2 : goal.bounds-cells-k-then-is_first-2
+bounds-cells-k-then-is_first-2 c = let p = cell (goal.at.bounds-cells-k-then-is_first-2 c).After-try_out in omega (arith, p, c.at-k.ensures)
+
+pub overflow_cast-cells : goal.overflow_cast-cells
+overflow_cast-cells c =
+    let k = class (goal.at.overflow_cast-cells c).After-try_out in
+    let f = out_few (elements_of c.args.parts.now) c.args.i c.requires.parts_value c.requires.i_bound k in
+    let w = ap (λ x. x.n) (fitted_is (elements_of c.args.parts.now) c.args.i _ k c.in_ok-fitted.ensures.value).1 in
+    omega (arith, f, w)
+
+pub returns-then-is_first-clause-value : goal.returns-then-is_first-clause-value
+returns-then-is_first-clause-value c = (fitted_is (elements_of c.args.parts.now) c.args.i _ (class (goal.at.returns-then-is_first-clause-value c).After-try_out) c.in_ok-fitted.ensures.value).0
+
+pub returns-then-is_first-clause-cells_after : goal.returns-then-is_first-clause-cells_after
+returns-then-is_first-clause-cells_after c =
+    let k = class (goal.at.returns-then-is_first-clause-cells_after c).After-try_out in
+    now_placed _ _ _ _ _ _
+    (first_fills (elements_of c.args.parts.now) c.args.i _ _ k c.in_ok-fitted.ensures.value c.is_first.ensures c.if-is_first.true)
+    (ap (λ (x : ℕ). 23 - x) c.at-k.ensures)
+    (fitted_is (elements_of c.args.parts.now) c.args.i _ k c.in_ok-fitted.ensures.value).1
+    c.byte_of.ensures
+
+pub returns-else-is_first-clause-value : goal.returns-else-is_first-clause-value
+returns-else-is_first-clause-value c = (fitted_is (elements_of c.args.parts.now) c.args.i _ (class (goal.at.returns-else-is_first-clause-value c).After-try_out) c.in_ok-fitted.ensures.value).0
+
+pub returns-else-is_first-clause-cells_after : goal.returns-else-is_first-clause-cells_after
+returns-else-is_first-clause-cells_after c = none_placed _ _ _ (not_first (elements_of c.args.parts.now) c.args.i _ c.is_first.ensures c.if-is_first.false)

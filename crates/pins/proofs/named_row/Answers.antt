@@ -1,13 +1,6 @@
-use Rattle.basics.proofs.Folds.{listing_start, listing_more, listing_end}
-use Rattle.basics.specs.Choice.{bit}
-use mathlib.Core.Path.{refl, ap, ◌∙◌}
+use Rattle.std.proofs.Common.{rules}
+use Rattle.circuit.proofs.Bytes.{listed_bits}
 use Rattle.pins.proofs.named_row.Goals as goal
 
-pub loop-j-init : goal.loop-j-init
-loop-j-init c = listing_start _ _ _ refl
-
-pub loop-j-preserved : goal.loop-j-preserved
-loop-j-preserved c = listing_more _ _ _ _ _ c.loop-j-test.true c.loop-j.invariant (c.byte_of.ensures ∙ ap bit c.is_named.ensures)
-
 pub returns : goal.returns
-returns c = listing_end _ _ _ _ c.loop-j-test.false c.loop-j.invariant
+returns c = listed_bits _ _ _ (λ k b h p. search rules) c.bits.ensures

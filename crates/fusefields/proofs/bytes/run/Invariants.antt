@@ -2,7 +2,8 @@ use mathlib.Core.Path.{◌≡◌}
 use mathlib.Core.Bool.{Bool}
 use Prim.Native.Nat.{ℕ, ◌+◌}
 use lib.ListN.{length, drop}
-use Rattle.fusefields.specs.Bytes.{front, Computes}
+use Rattle.fusefields.specs.Bytes.{front}
+use Rattle.fusetext.specs.Put.{Computes}
 use Rattle.fusefields.proofs.bytes.run.Given as goal
 
 abbrev pub invariant-loop-j : goal.invariant-loop-j
