@@ -2,19 +2,18 @@
 -- Assumes nothing.
 use Rattle.std.proofs.Common.{drop-cons, add-one, drop_of_length-le}
 use mathlib.Core.Path.{◌≡◌, refl, sym, ap, ◌∙◌}
-use mathlib.Core.Bool.{Bool, true, false}
+use mathlib.Core.Bool.{true, false}
 use mathlib.Core.List.{List, [], ◌∷◌}
 use Prim.Native.Nat.{ℕ, suc, ◌+◌, ◌-◌, ◌<◌, ◌≤◌}
 use native.Mathlib.Omega.{arith}
 use lib.ListN.{length, get_or, drop}
 use lib.Dec.{eqb, leb}
 use lib.IntN.{ℤ, pos}
-use borrow.Author.Tests.{eq-eqb, ne_eqb}
 use Rattle.words.specs.declared.Cursor.{Cursor}
 use Rattle.words.specs.Taken.{Word, Refused}
 use Rattle.words.specs.Words.{next_word}
 use Rattle.words.proofs.Forward.{next_forward}
-use Rattle.names.specs.Names.{looked_up, held}
+use Rattle.names.specs.Names.{looked_up}
 use Rattle.grammar.specs.Outcome.{Outcome, ok, no, Turn, more, last, on_word, and_then, levels}
 use Rattle.grammar.specs.Grammar.{closed, turned}
 use Rattle.grammar.specs.Modules.{repeat}
@@ -23,7 +22,6 @@ use Rattle.grammar.proofs.Turns.{turn_pick, turn_word, repeat_more, repeat_last,
 use Rattle.judging.specs.Reading.{State, reads}
 use Rattle.readers.specs.Readers.{inner_of, expression_of}
 use Rattle.parts.specs.Parts.{elements_at, constants_at, allows, one_more}
-use Rattle.parts.proofs.Runs.{none_more}
 use Rattle.simple.specs.Statements.{upward}
 use Rattle.lists.specs.Lists.{is_known, fresh_of, is_length, closed_type, length_of, type_of}
 use Rattle.lists.proofs.Laws.{near_fresh}

@@ -66,7 +66,12 @@ fn with_constant(names: &[u16], start: usize, end: usize, value: Num) -> Table
         Num::Down(m) => (m, 1),
     };
     let kind = names::CONSTANT;
-    Table::extend(names, start, basics::span(start, end), Entry { kind, value, size })
+    Table::extend(
+        names,
+        start,
+        basics::span(start, end),
+        Entry { kind, value, size },
+    )
 }
 
 // Behind the name of a constant.
@@ -169,7 +174,12 @@ fn elements(
         let word = made.next.next(text)?;
         made = match word.kind {
             Kind::Name => element_name(
-                made.table.lent(), room, section, length, word.start, word.next,
+                made.table.lent(),
+                room,
+                section,
+                length,
+                word.start,
+                word.next,
             )?,
             Kind::Comma => Made {
                 next: word.next,
