@@ -1,67 +1,34 @@
--- The lists of declarations as the loops use them: a turn goes on with the list from the next place, nearer to the text's end, or is its answer.
+-- The turns of the lists of declarations go nearer to the text's end; a meaning that a word must follow.
 -- Assumes nothing.
-use mathlib.Core.Path.{◌≡◌, refl}
+use mathlib.Core.Path.{◌≡◌, refl, sym}
 use mathlib.Core.List.{List}
-use Prim.Native.Nat.{ℕ, ◌-◌, ◌<◌}
-use lib.ListN.{length}
+use Prim.Native.Nat.{ℕ}
 use lib.Dec.{eqb}
 use mathlib.Core.Bool.{Bool, true, false}
 use Rattle.basics.specs.Choice.{pick}
 use Rattle.words.specs.Taken.{Taken}
 use Rattle.words.specs.Taken.{Word, Refused}
 use Rattle.words.specs.Words.{next_word}
-use Rattle.grammar.specs.Outcome.{Outcome, ok, no, more, last, on_word, and_then}
+use Rattle.grammar.specs.Outcome.{Outcome, ok, no, on_word, and_then}
 use Rattle.grammar.specs.Grammar.{closed}
 use Rattle.grammar.specs.Trees.{checks}
-use Rattle.grammar.specs.Modules.{must, repeated, constant_turn, name_turn, name_list, list_turn}
+use Rattle.grammar.specs.Modules.{must, constant_turn, name_turn, list_turn}
 use Rattle.grammar.specs.Forms.{blank}
-use Rattle.grammar.proofs.Turns.{repeat_more, repeat_falls, repeat_last, past_constant, past_name, past_list}
+use Rattle.grammar.proofs.Turns.{repeat_falls, past_constant, past_name, past_list}
+use Rattle.phrases.specs.Turns.{Nearer}
 
 abbrev Check : Type 0
 Check = Outcome (Unit {0}) (Unit {0})
 
-module _ (s : List ℕ) (at : ℕ) where
-  abbrev pub named : Check
-  named = repeated checks blank s (name_turn checks blank s) tt at tt
+-- behind a name, a constant, a list of signals: each turn that goes on is nearer to the text's end
+pub name_nearer : (s : List ℕ) → Nearer (record { text = s; turns = name_turn checks blank s })
+name_nearer s at e h = repeat_falls s (name_turn checks blank s) (past_name checks blank s) tt tt at e tt tt (sym h)
 
-  pub name_falls : (e : ℕ) → name_turn checks blank s tt at tt ≡ more tt e tt → length s - e < length s - at
-  name_falls e h = repeat_falls s (name_turn checks blank s) (past_name checks blank s) tt tt at e tt tt h
+pub constant_nearer : (s : List ℕ) → Nearer (record { text = s; turns = constant_turn checks blank s })
+constant_nearer s at e h = repeat_falls s (constant_turn checks blank s) (past_constant checks blank s) tt tt at e tt tt (sym h)
 
-  pub name_more : (e : ℕ) → name_turn checks blank s tt at tt ≡ more tt e tt → named ≡ repeated checks blank s (name_turn checks blank s) tt e tt
-  name_more e h = repeat_more s (name_turn checks blank s) (past_name checks blank s) tt tt at e tt tt h
-
-  pub name_last : (r : Check) → name_turn checks blank s tt at tt ≡ last r → named ≡ r
-  name_last r h = repeat_last s (name_turn checks blank s) (past_name checks blank s) tt at tt r h
-
-  abbrev pub valued : Check
-  valued = repeated checks blank s (constant_turn checks blank s) tt at tt
-
-  pub constant_falls : (e : ℕ) → constant_turn checks blank s tt at tt ≡ more tt e tt → length s - e < length s - at
-  constant_falls e h = repeat_falls s (constant_turn checks blank s) (past_constant checks blank s) tt tt at e tt tt h
-
-  pub constant_more : (e : ℕ) → constant_turn checks blank s tt at tt ≡ more tt e tt → valued ≡ repeated checks blank s (constant_turn checks blank s) tt e tt
-  constant_more e h = repeat_more s (constant_turn checks blank s) (past_constant checks blank s) tt tt at e tt tt h
-
-  pub constant_last : (r : Check) → constant_turn checks blank s tt at tt ≡ last r → valued ≡ r
-  constant_last r h = repeat_last s (constant_turn checks blank s) (past_constant checks blank s) tt at tt r h
-
-module _ (s : List ℕ) (c at : ℕ) where
-  abbrev pub listed : Check
-  listed = repeated checks blank s (list_turn checks blank s c) tt at tt
-
-  pub list_falls : (e : ℕ) → list_turn checks blank s c tt at tt ≡ more tt e tt → length s - e < length s - at
-  list_falls e h = repeat_falls s (list_turn checks blank s c) (past_list checks blank s c) tt tt at e tt tt h
-
-  pub list_more : (e : ℕ) → list_turn checks blank s c tt at tt ≡ more tt e tt → listed ≡ repeated checks blank s (list_turn checks blank s c) tt e tt
-  list_more e h = repeat_more s (list_turn checks blank s c) (past_list checks blank s c) tt tt at e tt tt h
-
-  pub list_last : (r : Check) → list_turn checks blank s c tt at tt ≡ last r → listed ≡ r
-  list_last r h = repeat_last s (list_turn checks blank s c) (past_list checks blank s c) tt at tt r h
-
--- names with commas between them, from past the first
-pub name_list_lem : (s : List ℕ) (st e : ℕ) → name_list checks blank s st e tt ≡ named s e
-unfolding name_list
-name_list_lem s st e = refl
+pub list_nearer : (s : List ℕ) (c : ℕ) → Nearer (record { text = s; turns = list_turn checks blank s c })
+list_nearer s c at e h = repeat_falls s (list_turn checks blank s c) (past_list checks blank s c) tt tt at e tt tt (sym h)
 
 abbrev Headed : Type 0
 Headed = Outcome (Unit {0}) (ℕ × ℕ)

@@ -2,460 +2,230 @@
 #![tactic(auto)]
 
 ghost use Rattle.std.specs.Prelude.{◌≡◌};
-ghost use Rattle.grammar.specs.Outcome.{levels};
-ghost use Rattle.grammar.specs.Grammar.{nested, part};
+ghost use Rattle.words.specs.Kinds.{code};
 ghost use Rattle.grammar.specs.Trees.{checks};
-ghost use Rattle.grammar.specs.Modules.{repeated, constant_turn, another_name, name_turn, name_list, arrayed, typed, type_of, list_turn, constants, lists, out_and_var, declarations, begun, headed, same_name, ended, headless};
+ghost use Rattle.grammar.specs.Modules.{constant_turn, name_turn, name_list, typed, type_of, list_turn, constants, lists, declarations, begun, headed, same_name, ended, headless};
 ghost use Rattle.grammar.specs.Forms.{blank, checked_text};
 ghost use Rattle.phrases.specs.Seen.{seen_end, seen_go};
 ghost use Rattle.checking.specs.Seen.{seen_body, seen_head, seen_text};
 
-use phrases::{Ended, Go};
-use words::{Cursor, Taken};
+use basics::refusal::{Reason, Refusal};
+use phrases::Turn;
+use words::{Cursor, Kind, Word};
 
 // Where the statements start, and where they end.
-#[derive(Clone, Copy)]
-pub enum Body {
-    Found { start: usize, next: Cursor },
-    Missing { number: u8, place: usize },
+#[derive(Clone, Copy, Debug, PartialEq, Eq)]
+pub struct Body {
+    pub start: Cursor,
+    pub next: Cursor,
 }
 
-// The module's name, from its first byte to the place past it, and what is behind the heading.
-#[derive(Clone, Copy)]
-pub enum Head {
-    Named {
-        start: usize,
-        end: usize,
-        next: Cursor,
-    },
-    Wrong {
-        number: u8,
-        place: usize,
-    },
+// The module's name, and what is behind the heading.
+#[derive(Clone, Copy, Debug, PartialEq, Eq)]
+pub struct Head {
+    pub name: Word,
+    pub next: Cursor,
 }
 
-// Where the declarations and the statements of a text start, or its refusal.
-#[derive(Clone, Copy)]
-pub enum Checked {
-    Fine {
-        declarations: usize,
-        statements: usize,
-        next: Cursor,
-    },
-    Refused {
-        number: u8,
-        place: usize,
-    },
+// Where the declarations and the statements of a text start, and where it ends.
+#[derive(Clone, Copy, Debug, PartialEq, Eq)]
+pub struct Checked {
+    pub declarations: Cursor,
+    pub statements: Cursor,
+    pub next: Cursor,
 }
 
 // A constant.
-fn constant_turn(text: &[u8], from: Cursor) -> Go
+#[tactic(auto, using(std::proofs::lemmas::Grind::common_steps, words::proofs::Codes::code_other), unfolding(grammar::specs::Modules::constant_turn))]
+fn constant_turn(text: &[u8], from: Cursor) -> Result<Turn, Refusal>
     ensures { seen_go result ≡ constant_turn checks blank text.now tt from.at tt }
 {
-    match from.next(text) {
-        Taken::Word {
-            kind,
-            start: _,
-            value: _,
-            next,
-        } => {
-            if kind == 1 {
-                match phrases::give(text, 59, next, 32) {
-                    Ended::Past { next: past } => Go::More { next: past },
-                    Ended::Refused { number, place } => Go::Stop { number, place },
-                }
-            } else {
-                Go::Last { next: from }
-            }
-        }
-        Taken::Refused { number, place } => Go::Stop { number, place },
+    let word = from.next(text)?;
+    if word.kind != Kind::Name {
+        return Ok(Turn::Last(from));
     }
+    let end = phrases::give(text, Kind::Semicolon, word.next, grammar::level_limit())?;
+    Ok(Turn::More(end))
 }
 
-// Behind a comma of a list: one name more.
-fn another_name(text: &[u8], from: Cursor) -> Go
-    ensures { seen_go result ≡ another_name checks blank text.now tt from.at tt }
-{
-    match from.next(text) {
-        Taken::Word {
-            kind,
-            start,
-            value: _,
-            next,
-        } => {
-            if kind == 1 {
-                return Go::More { next };
-            }
-            Go::Stop {
-                number: 2,
-                place: start,
-            }
-        }
-        Taken::Refused { number, place } => Go::Stop { number, place },
-    }
-}
-
-// Behind a name of a list.
-fn name_turn(text: &[u8], from: Cursor) -> Go
+// Behind a name of a list: a comma and one name more, or the list's end.
+#[tactic(auto, using(std::proofs::lemmas::Grind::common_steps, words::proofs::Codes::code_other), unfolding(grammar::specs::Modules::name_turn, grammar::specs::Modules::another_name))]
+fn name_turn(text: &[u8], from: Cursor) -> Result<Turn, Refusal>
     ensures { seen_go result ≡ name_turn checks blank text.now tt from.at tt }
 {
-    match from.next(text) {
-        Taken::Word {
-            kind,
-            start: _,
-            value: _,
-            next,
-        } => {
-            if kind == 44 {
-                return another_name(text, next);
-            }
-            Go::Last { next: from }
-        }
-        Taken::Refused { number, place } => Go::Stop { number, place },
+    let word = from.next(text)?;
+    if word.kind != Kind::Comma {
+        return Ok(Turn::Last(from));
     }
+    let name = word.next.next(text)?;
+    if name.kind != Kind::Name {
+        return Err(Refusal::new(Reason::Grammar, name.start));
+    }
+    Ok(Turn::More(name.next))
 }
 
 // Names with commas between them, from past the first.
-fn name_list(text: &[u8], start: usize, end: Cursor) -> Ended
+#[tactic(auto, using(std::proofs::lemmas::Grind::common_steps), unfolding(grammar::specs::Modules::name_list))]
+fn name_list(text: &[u8], start: usize, end: Cursor) -> Result<Cursor, Refusal>
     ensures { seen_end result ≡ name_list checks blank text.now start end.at tt }
 {
-    let mut at = end.at;
-    loop {
-        match name_turn(text, Cursor { at }) {
-            Go::More { next } => {
-                at = next.at;
-            }
-            Go::Last { next } => return Ended::Past { next },
-            Go::Stop { number, place } => return Ended::Refused { number, place },
-        }
-    }
+    phrases::repeat(end, &|at| name_turn(text, at))
 }
 
-// Behind the `[` of a type: an expression and `]`.
-fn length_part(text: &[u8], place: usize, from: Cursor) -> Ended
-    ensures { seen_end result ≡ part checks text.now (nested checks text.now levels) 0 place 93 from.at tt }
-{
-    match phrases::within(text, place, from, 32) {
-        Ended::Past { next } => phrases::expect(text, 93, next),
-        Ended::Refused { number, place: p } => Ended::Refused { number, place: p },
-    }
-}
-
-// Behind the `[` of a type: a length, `]` and BIT.
-fn array_type(text: &[u8], place: usize, from: Cursor) -> Ended
-    ensures { seen_end result ≡ arrayed checks blank text.now place from.at tt }
-{
-    match length_part(text, place, from) {
-        Ended::Past { next } => phrases::expect(text, 213, next),
-        Ended::Refused { number, place: p } => Ended::Refused { number, place: p },
-    }
-}
-
-// A type.
-fn one_type(text: &[u8], from: Cursor) -> Ended
+// A type: BIT, or `[`, a length, `]` and BIT.
+#[tactic(auto, using(std::proofs::lemmas::Grind::common_steps), unfolding(grammar::specs::Modules::typed, grammar::specs::Modules::arrayed, grammar::specs::Grammar::part))]
+fn one_type(text: &[u8], from: Cursor) -> Result<Cursor, Refusal>
     ensures { seen_end result ≡ typed checks blank text.now from.at tt }
 {
-    match from.next(text) {
-        Taken::Word {
-            kind,
-            start,
-            value: _,
-            next,
-        } => {
-            if kind == 213 {
-                return Ended::Past { next };
-            }
-            if kind == 91 {
-                return array_type(text, start, next);
-            }
-            Ended::Refused {
-                number: 2,
-                place: start,
-            }
+    let word = from.next(text)?;
+    match word.kind {
+        Kind::Bit => Ok(word.next),
+        Kind::OpenSquare => {
+            let length = phrases::within(text, word.start, word.next, grammar::level_limit())?;
+            let closed = phrases::expect(text, Kind::CloseSquare, length)?;
+            phrases::expect(text, Kind::Bit, closed)
         }
-        Taken::Refused { number, place } => Ended::Refused { number, place },
+        _ => Err(Refusal::new(Reason::Grammar, word.start)),
     }
 }
 
 // Behind the names of a list: `:`, a type and `;`.
-fn list_type(text: &[u8], from: Cursor) -> Ended
+#[tactic(auto, using(std::proofs::lemmas::Grind::common_steps), unfolding(grammar::specs::Modules::type_of))]
+fn list_type(text: &[u8], from: Cursor) -> Result<Cursor, Refusal>
     ensures { seen_end result ≡ type_of checks blank text.now from.at tt }
 {
-    match phrases::expect(text, 58, from) {
-        Ended::Past { next } => match one_type(text, next) {
-            Ended::Past { next: past } => phrases::expect(text, 59, past),
-            Ended::Refused { number, place } => Ended::Refused { number, place },
-        },
-        Ended::Refused { number, place } => Ended::Refused { number, place },
-    }
+    let colon = phrases::expect(text, Kind::Colon, from)?;
+    let end = one_type(text, colon)?;
+    phrases::expect(text, Kind::Semicolon, end)
 }
 
 // A list of names of a class, of one type.
-fn list_turn(text: &[u8], class: u8, from: Cursor) -> Go
-    ensures { seen_go result ≡ list_turn checks blank text.now class tt from.at tt }
+#[tactic(auto, using(std::proofs::lemmas::Grind::common_steps, words::proofs::Codes::code_other), unfolding(grammar::specs::Modules::list_turn))]
+fn list_turn(text: &[u8], class: Kind, from: Cursor) -> Result<Turn, Refusal>
+    ensures { seen_go result ≡ list_turn checks blank text.now (code class) tt from.at tt }
 {
-    match from.next(text) {
-        Taken::Word {
-            kind,
-            start,
-            value: _,
-            next,
-        } => {
-            if kind == 1 {
-                match name_list(text, start, next) {
-                    Ended::Past { next: past } => match list_type(text, past) {
-                        Ended::Past { next: tail } => Go::More { next: tail },
-                        Ended::Refused { number, place } => Go::Stop { number, place },
-                    },
-                    Ended::Refused { number, place } => Go::Stop { number, place },
-                }
-            } else {
-                Go::Last { next: from }
-            }
-        }
-        Taken::Refused { number, place } => Go::Stop { number, place },
+    let word = from.next(text)?;
+    if word.kind != Kind::Name {
+        return Ok(Turn::Last(from));
     }
-}
-
-// The constants of a section.
-fn constant_list(text: &[u8], from: Cursor) -> Ended
-    ensures { seen_end result ≡ repeated checks blank text.now (constant_turn checks blank text.now) tt from.at tt }
-{
-    let mut at = from.at;
-    loop {
-        match constant_turn(text, Cursor { at }) {
-            Go::More { next } => {
-                at = next.at;
-            }
-            Go::Last { next } => return Ended::Past { next },
-            Go::Stop { number, place } => return Ended::Refused { number, place },
-        }
-    }
-}
-
-// The lists of a section of a class.
-fn signal_lists(text: &[u8], class: u8, from: Cursor) -> Ended
-    ensures { seen_end result ≡ repeated checks blank text.now (list_turn checks blank text.now class) tt from.at tt }
-{
-    let mut at = from.at;
-    loop {
-        match list_turn(text, class, Cursor { at }) {
-            Go::More { next } => {
-                at = next.at;
-            }
-            Go::Last { next } => return Ended::Past { next },
-            Go::Stop { number, place } => return Ended::Refused { number, place },
-        }
-    }
+    let names = name_list(text, word.start, word.next)?;
+    let end = list_type(text, names)?;
+    Ok(Turn::More(end))
 }
 
 // CONST and its constants, or nothing.
-fn constant_section(text: &[u8], from: Cursor) -> Ended
+#[tactic(auto, using(std::proofs::lemmas::Grind::common_steps, words::proofs::Codes::code_other), unfolding(grammar::specs::Modules::constants))]
+fn constant_section(text: &[u8], from: Cursor) -> Result<Cursor, Refusal>
     ensures { seen_end result ≡ constants checks blank text.now tt from.at tt }
 {
-    match from.next(text) {
-        Taken::Word {
-            kind,
-            start: _,
-            value: _,
-            next,
-        } => {
-            if kind == 208 {
-                return constant_list(text, next);
-            }
-            Ended::Past { next: from }
-        }
-        Taken::Refused { number, place } => Ended::Refused { number, place },
+    let word = from.next(text)?;
+    if word.kind != Kind::Const {
+        return Ok(from);
     }
+    phrases::repeat(word.next, &|at| constant_turn(text, at))
 }
 
 // IN, OUT or VAR and its lists, or nothing.
-fn signal_section(text: &[u8], class: u8, from: Cursor) -> Ended
-    ensures { seen_end result ≡ lists checks blank text.now class tt from.at tt }
+#[tactic(auto, using(std::proofs::lemmas::Grind::common_steps, words::proofs::Codes::code_other), unfolding(grammar::specs::Modules::lists))]
+fn signal_section(text: &[u8], class: Kind, from: Cursor) -> Result<Cursor, Refusal>
+    ensures { seen_end result ≡ lists checks blank text.now (code class) tt from.at tt }
 {
-    match from.next(text) {
-        Taken::Word {
-            kind,
-            start: _,
-            value: _,
-            next,
-        } => {
-            if kind == class {
-                return signal_lists(text, class, next);
-            }
-            Ended::Past { next: from }
-        }
-        Taken::Refused { number, place } => Ended::Refused { number, place },
-    }
-}
-
-// OUT and VAR.
-fn out_and_var(text: &[u8], from: Cursor) -> Ended
-    ensures { seen_end result ≡ out_and_var checks blank text.now tt from.at tt }
-{
-    match signal_section(text, 210, from) {
-        Ended::Past { next } => signal_section(text, 211, next),
-        Ended::Refused { number, place } => Ended::Refused { number, place },
+    let word = from.next(text)?;
+    if word.kind == class {
+        phrases::repeat(word.next, &|at| list_turn(text, class, at))
+    } else {
+        Ok(from)
     }
 }
 
 // The declarations.
-fn all_declarations(text: &[u8], from: Cursor) -> Ended
+#[tactic(auto, using(std::proofs::lemmas::Grind::common_steps), unfolding(grammar::specs::Modules::declarations, grammar::specs::Modules::out_and_var))]
+fn all_declarations(text: &[u8], from: Cursor) -> Result<Cursor, Refusal>
     ensures { seen_end result ≡ declarations checks blank text.now from.at tt }
 {
-    match constant_section(text, from) {
-        Ended::Past { next } => match signal_section(text, 209, next) {
-            Ended::Past { next: past } => out_and_var(text, past),
-            Ended::Refused { number, place } => Ended::Refused { number, place },
-        },
-        Ended::Refused { number, place } => Ended::Refused { number, place },
-    }
+    let constants = constant_section(text, from)?;
+    let inputs = signal_section(text, Kind::In, constants)?;
+    let outputs = signal_section(text, Kind::Out, inputs)?;
+    signal_section(text, Kind::Var, outputs)
 }
 
 // BEGIN and statements, or nothing.
-fn begin(text: &[u8], from: Cursor) -> Body
+#[tactic(auto, using(std::proofs::lemmas::Grind::common_steps, words::proofs::Codes::code_other), unfolding(grammar::specs::Modules::begun))]
+fn begin(text: &[u8], from: Cursor) -> Result<Body, Refusal>
     ensures { seen_body result ≡ begun checks blank text.now from.at tt }
 {
-    match from.next(text) {
-        Taken::Word {
-            kind,
-            start: _,
-            value: _,
-            next,
-        } => {
-            if kind == 212 {
-                match phrases::statement_list(text, next, 32) {
-                    Ended::Past { next: past } => Body::Found {
-                        start: next.at,
-                        next: past,
-                    },
-                    Ended::Refused { number, place } => Body::Missing { number, place },
-                }
-            } else {
-                Body::Found {
-                    start: from.at,
-                    next: from,
-                }
-            }
-        }
-        Taken::Refused { number, place } => Body::Missing { number, place },
+    let word = from.next(text)?;
+    if word.kind != Kind::Begin {
+        return Ok(Body {
+            start: from,
+            next: from,
+        });
     }
+    let next = phrases::statement_list(text, word.next, grammar::level_limit())?;
+    Ok(Body {
+        start: word.next,
+        next,
+    })
 }
 
 // `MODULE name ;`.
-fn heading(text: &[u8], from: Cursor) -> Head
+#[tactic(auto, using(std::proofs::lemmas::Grind::common_steps, words::proofs::Codes::code_other, crate::proofs::Sections::closing), unfolding(grammar::specs::Modules::headed))]
+fn heading(text: &[u8], from: Cursor) -> Result<Head, Refusal>
     ensures { seen_head result ≡ headed checks blank text.now from.at tt }
 {
-    match phrases::expect(text, 207, from) {
-        Ended::Past { next } => match next.next(text) {
-            Taken::Word {
-                kind,
-                start,
-                value: _,
-                next: end,
-            } => {
-                if kind == 1 {
-                    match phrases::expect(text, 59, end) {
-                        Ended::Past { next: past } => Head::Named {
-                            start,
-                            end: end.at,
-                            next: past,
-                        },
-                        Ended::Refused { number, place } => Head::Wrong { number, place },
-                    }
-                } else {
-                    Head::Wrong {
-                        number: 2,
-                        place: start,
-                    }
-                }
-            }
-            Taken::Refused { number, place } => Head::Wrong { number, place },
-        },
-        Ended::Refused { number, place } => Head::Wrong { number, place },
+    let name = phrases::expect(text, Kind::Module, from)?.next(text)?;
+    if name.kind != Kind::Name {
+        return Err(Refusal::new(Reason::Grammar, name.start));
     }
+    let next = phrases::expect(text, Kind::Semicolon, name.next)?;
+    Ok(Head { name, next })
 }
 
 // The module's name again.
-fn name_again(text: &[u8], start: usize, end: usize, from: Cursor) -> Ended
-    ensures { seen_end result ≡ same_name checks blank text.now start end from.at tt }
+#[tactic(auto, using(std::proofs::lemmas::Grind::common_steps, words::proofs::Codes::code_other), unfolding(grammar::specs::Modules::same_name))]
+fn name_again(text: &[u8], name: Word, from: Cursor) -> Result<Cursor, Refusal>
+    ensures { seen_end result ≡ same_name checks blank text.now name.start name.next.at from.at tt }
 {
-    match from.next(text) {
-        Taken::Word {
-            kind,
-            start: p,
-            value: _,
-            next,
-        } => {
-            if kind == 1 {
-                if names::same_name(
-                    text,
-                    start,
-                    basics::span(start, end),
-                    p,
-                    basics::span(p, next.at),
-                ) {
-                    return Ended::Past { next };
-                }
-                return Ended::Refused {
-                    number: 2,
-                    place: p,
-                };
-            }
-            Ended::Refused {
-                number: 2,
-                place: p,
-            }
-        }
-        Taken::Refused { number, place } => Ended::Refused { number, place },
+    let word = from.next(text)?;
+    let first = basics::span(name.start, name.next.at);
+    let second = basics::span(word.start, word.next.at);
+    if word.kind == Kind::Name && names::same_name(text, name.start, first, word.start, second) {
+        Ok(word.next)
+    } else {
+        Err(Refusal::new(Reason::Grammar, word.start))
     }
 }
 
 // `END name .` and the text's end.
-fn ending(text: &[u8], start: usize, end: usize, from: Cursor) -> Ended
-    ensures { seen_end result ≡ ended checks blank text.now start end from.at tt }
+#[tactic(auto, using(std::proofs::lemmas::Grind::common_steps), unfolding(grammar::specs::Modules::ended))]
+fn ending(text: &[u8], name: Word, from: Cursor) -> Result<Cursor, Refusal>
+    ensures { seen_end result ≡ ended checks blank text.now name.start name.next.at from.at tt }
 {
-    match phrases::expect(text, 202, from) {
-        Ended::Past { next } => match name_again(text, start, end, next) {
-            Ended::Past { next: past } => match phrases::expect(text, 46, past) {
-                Ended::Past { next: dot } => phrases::expect(text, 0, dot),
-                Ended::Refused { number, place } => Ended::Refused { number, place },
-            },
-            Ended::Refused { number, place } => Ended::Refused { number, place },
-        },
-        Ended::Refused { number, place } => Ended::Refused { number, place },
-    }
+    let end = phrases::expect(text, Kind::End, from)?;
+    let named = name_again(text, name, end)?;
+    let dot = phrases::expect(text, Kind::Dot, named)?;
+    phrases::expect(text, Kind::TextEnd, dot)
 }
 
 // All that follows the heading.
-fn behind_heading(text: &[u8], start: usize, end: usize, from: Cursor) -> Checked
-    ensures { seen_text result ≡ headless checks blank text.now start end from.at tt }
+#[tactic(auto, using(std::proofs::lemmas::Grind::common_steps), unfolding(grammar::specs::Modules::headless))]
+fn behind_heading(text: &[u8], name: Word, from: Cursor) -> Result<Checked, Refusal>
+    ensures { seen_text result ≡ headless checks blank text.now name.start name.next.at from.at tt }
 {
-    match all_declarations(text, from) {
-        Ended::Past { next } => match begin(text, next) {
-            Body::Found {
-                start: statements,
-                next: past,
-            } => match ending(text, start, end, past) {
-                Ended::Past { next: tail } => Checked::Fine {
-                    declarations: from.at,
-                    statements,
-                    next: tail,
-                },
-                Ended::Refused { number, place } => Checked::Refused { number, place },
-            },
-            Body::Missing { number, place } => Checked::Refused { number, place },
-        },
-        Ended::Refused { number, place } => Checked::Refused { number, place },
-    }
+    let body = begin(text, all_declarations(text, from)?)?;
+    let next = ending(text, name, body.next)?;
+    Ok(Checked {
+        declarations: from,
+        statements: body.start,
+        next,
+    })
 }
 
 // A whole text: where its declarations and its statements start, or its refusal of stage 2.
-pub fn check(text: &[u8]) -> Checked
+#[tactic(auto, using(std::proofs::lemmas::Grind::common_steps), unfolding(grammar::specs::Modules::whole_text))]
+pub fn check(text: &[u8]) -> Result<Checked, Refusal>
     ensures { seen_text result ≡ checked_text text.now }
 {
-    match heading(text, Cursor { at: 0 }) {
-        Head::Named { start, end, next } => behind_heading(text, start, end, next),
-        Head::Wrong { number, place } => Checked::Refused { number, place },
-    }
+    let head = heading(text, Cursor { at: 0 })?;
+    behind_heading(text, head.name, head.next)
 }

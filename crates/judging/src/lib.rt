@@ -23,6 +23,7 @@ pub enum Sort {
     Uncounted = 3,
 }
 
+// Kept: nodes are numbers here, as they stand in the lent room (memory is fixed), and the elements follow the operators.
 // The nodes of signals: the two constants, the operators, MUX, REG of one part and of two; element k is the node that many behind the first element.
 pub const LOW: u32 = 0;
 
@@ -228,6 +229,7 @@ pub fn operate(sort: Sort, kind: Kind, place: usize, a: Num, b: Num) -> Result<J
 }
 
 // What was judged: a node is written.
+// Kept: room and count are two parameters: a struct that holds the lent room would add to each contract that its loan stays the same one.
 #[tactic(auto, using(std::proofs::lemmas::Grind::common_steps), unfolding(crate::specs::Reading::emitted))]
 pub fn put(
     room: &mut [u32],

@@ -2,362 +2,222 @@
 #![tactic(auto)]
 
 ghost use Rattle.std.specs.Prelude.{◌≡◌, false};
+ghost use Rattle.words.specs.declared.Cursor.{Cursor};
+ghost use Rattle.words.specs.Kinds.{code};
 ghost use Rattle.grammar.specs.Grammar.{expression, named, nested};
 ghost use Rattle.grammar.specs.Trees.{checks};
-ghost use Rattle.grammar.specs.Modules.{must, up_to, given, number_turn, numbers, positioned, aimed, simple, statement, statement_turn, statements, looped, ranged, for_from, for_of};
+ghost use Rattle.grammar.specs.Modules.{must, up_to, given, number_turn, numbers, positioned, aimed, simple, statement, statement_turn, for_of};
 ghost use Rattle.grammar.specs.Forms.{blank, checked_statements};
 ghost use Rattle.phrases.specs.Seen.{seen_end, seen_go};
+ghost use Rattle.phrases.specs.Turns.{Listed, Nearer, list_of};
 
-use judging::Read;
-use words::{Cursor, Taken};
+use basics::refusal::{Reason, Refusal};
+use judging::{Scope, Sort};
+use words::{Cursor, Kind};
 
-// Where a part ends, or its refusal.
-#[derive(Clone, Copy)]
-pub enum Ended {
-    Past { next: Cursor },
-    Refused { number: u8, place: usize },
-}
-
-// One turn of a list: go on, the list's end, or a refusal.
-#[derive(Clone, Copy)]
-pub enum Go {
-    More { next: Cursor },
-    Last { next: Cursor },
-    Stop { number: u8, place: usize },
+// One turn of a list: go on, or the list's end.
+#[derive(Clone, Copy, Debug, PartialEq, Eq)]
+pub enum Turn {
+    More(Cursor),
+    Last(Cursor),
 }
 
 // An expression, with so many levels of nesting left.
-fn whole(text: &[u8], from: Cursor, depth: usize) -> Ended
+#[tactic(auto, using(crate::proofs::Zero::expression_past, crate::proofs::Zero::expression_refused))]
+fn whole(text: &[u8], from: Cursor, depth: usize) -> Result<Cursor, Refusal>
     ensures { seen_end result ≡ expression checks text.now (nested checks text.now depth) 0 from.at tt }
 {
-    let names: [u16; 1] = [0];
-    let mut room: [u32; 1] = [0];
-    match readers::expression(text, &names, &mut room, 0, 0, from, depth) {
-        Read::Value {
-            value: _,
-            count: _,
-            next,
-        } => Ended::Past { next },
-        Read::Refused {
-            number,
-            place,
-            count: _,
-        } => Ended::Refused { number, place },
-    }
+    let scope = Scope { text, names: &[] };
+    let read = readers::expression(scope, &mut [], &mut 0, Sort::Checked, from, depth)?;
+    Ok(read.next)
 }
 
 // An expression within what opens at a place.
-pub fn within(text: &[u8], place: usize, from: Cursor, depth: usize) -> Ended
+#[tactic(auto, using(crate::proofs::Zero::inner_past, crate::proofs::Zero::inner_refused))]
+pub fn within(text: &[u8], place: usize, from: Cursor, depth: usize) -> Result<Cursor, Refusal>
     ensures { seen_end result ≡ nested checks text.now depth false 0 place from.at tt }
 {
-    let names: [u16; 1] = [0];
-    let mut room: [u32; 1] = [0];
-    match readers::inner(text, &names, &mut room, 0, 0, place, from, depth) {
-        Read::Value {
-            value: _,
-            count: _,
-            next,
-        } => Ended::Past { next },
-        Read::Refused {
-            number,
-            place: p,
-            count: _,
-        } => Ended::Refused { number, place: p },
-    }
+    let scope = Scope { text, names: &[] };
+    let read = readers::inner(scope, &mut [], &mut 0, Sort::Checked, place, from, depth)?;
+    Ok(read.next)
 }
 
 // Past a name: an index, or nothing.
-fn indexed(text: &[u8], start: usize, end: Cursor, depth: usize) -> Ended
+#[tactic(auto, using(crate::proofs::Zero::index_past, crate::proofs::Zero::index_refused))]
+fn indexed(text: &[u8], start: usize, end: Cursor, depth: usize) -> Result<Cursor, Refusal>
     ensures { seen_end result ≡ named checks text.now (nested checks text.now depth) 0 start end.at tt }
 {
-    let names: [u16; 1] = [0];
-    let mut room: [u32; 1] = [0];
-    match readers::index(text, &names, &mut room, 0, 0, start, end, depth) {
-        Read::Value {
-            value: _,
-            count: _,
-            next,
-        } => Ended::Past { next },
-        Read::Refused {
-            number,
-            place,
-            count: _,
-        } => Ended::Refused { number, place },
-    }
+    let scope = Scope { text, names: &[] };
+    let read = readers::index(scope, &mut [], &mut 0, Sort::Checked, start, end, depth)?;
+    Ok(read.next)
 }
 
 // The word of a kind.
-pub fn expect(text: &[u8], kind: u8, from: Cursor) -> Ended
-    ensures { seen_end result ≡ must text.now kind from.at tt }
+#[tactic(auto, using(std::proofs::lemmas::Grind::common_steps, words::proofs::Codes::code_other), unfolding(grammar::specs::Grammar::closed))]
+pub fn expect(text: &[u8], kind: Kind, from: Cursor) -> Result<Cursor, Refusal>
+    ensures { seen_end result ≡ must text.now (code kind) from.at tt }
 {
-    match from.next(text) {
-        Taken::Word {
-            kind: k,
-            start,
-            value: _,
-            next,
-        } => {
-            if k == kind {
-                return Ended::Past { next };
-            }
-            Ended::Refused {
-                number: 2,
-                place: start,
-            }
-        }
-        Taken::Refused { number, place } => Ended::Refused { number, place },
+    let word = from.next(text)?;
+    if word.kind == kind {
+        Ok(word.next)
+    } else {
+        Err(Refusal::new(Reason::Grammar, word.start))
     }
 }
 
 // An expression and the word of a kind.
-fn up_to(text: &[u8], kind: u8, from: Cursor, depth: usize) -> Ended
-    ensures { seen_end result ≡ up_to checks blank text.now 0 depth kind from.at tt }
+#[tactic(auto, using(std::proofs::lemmas::Grind::common_steps), unfolding(grammar::specs::Modules::up_to))]
+fn up_to(text: &[u8], kind: Kind, from: Cursor, depth: usize) -> Result<Cursor, Refusal>
+    ensures { seen_end result ≡ up_to checks blank text.now 0 depth (code kind) from.at tt }
 {
-    match whole(text, from, depth) {
-        Ended::Past { next } => expect(text, kind, next),
-        Ended::Refused { number, place } => Ended::Refused { number, place },
-    }
+    let end = whole(text, from, depth)?;
+    expect(text, kind, end)
 }
 
 // `:=`, an expression and the word of a kind.
-pub fn give(text: &[u8], kind: u8, from: Cursor, depth: usize) -> Ended
-    ensures { seen_end result ≡ given checks blank text.now 0 depth kind from.at tt }
+#[tactic(auto, using(std::proofs::lemmas::Grind::common_steps), unfolding(grammar::specs::Modules::given))]
+pub fn give(text: &[u8], kind: Kind, from: Cursor, depth: usize) -> Result<Cursor, Refusal>
+    ensures { seen_end result ≡ given checks blank text.now 0 depth (code kind) from.at tt }
 {
-    match expect(text, 189, from) {
-        Ended::Past { next } => up_to(text, kind, next, depth),
-        Ended::Refused { number, place } => Ended::Refused { number, place },
-    }
+    let value = expect(text, Kind::Becomes, from)?;
+    up_to(text, kind, value, depth)
 }
 
 // A number of the position list that opens at a place, and the word behind it.
-fn number_turn(text: &[u8], place: usize, from: Cursor, depth: usize) -> Go
+#[tactic(auto, using(std::proofs::lemmas::Grind::common_steps), unfolding(grammar::specs::Modules::number_turn))]
+fn number_turn(text: &[u8], place: usize, from: Cursor, depth: usize) -> Result<Turn, Refusal>
     ensures { seen_go result ≡ number_turn checks blank text.now depth place tt from.at tt }
 {
-    match within(text, place, from, depth) {
-        Ended::Past { next } => match next.next(text) {
-            Taken::Word {
-                kind,
-                start,
-                value: _,
-                next: past,
-            } => {
-                if kind == 59 {
-                    return Go::More { next: past };
-                }
-                if kind == 93 {
-                    return Go::Last { next: past };
-                }
-                Go::Stop {
-                    number: 2,
-                    place: start,
-                }
-            }
-            Taken::Refused { number, place: p } => Go::Stop { number, place: p },
-        },
-        Ended::Refused { number, place: p } => Go::Stop { number, place: p },
+    let word = within(text, place, from, depth)?.next(text)?;
+    match word.kind {
+        Kind::Semicolon => Ok(Turn::More(word.next)),
+        Kind::CloseSquare => Ok(Turn::Last(word.next)),
+        _ => Err(Refusal::new(Reason::Grammar, word.start)),
+    }
+}
+
+// Turn after turn, until one is the list's last.
+#[tactic(auto, using(std::proofs::lemmas::Grind::common_steps, crate::proofs::Lists::list_more, crate::proofs::Lists::list_last))]
+pub fn repeat<F: Fn(Cursor) -> Result<Turn, Refusal>>(
+    from: Cursor,
+    turn: F,
+) -> Result<Cursor, Refusal>
+    ghost list: { Listed }
+    requires callable { F.IsAlwaysCallable turn }
+    requires turns { (at : Cursor) (r : _) → F.post turn at r → seen_go r ≡ list.turns tt at.at tt }
+    requires nearer { Nearer list }
+    ensures { seen_end result ≡ list_of list from.at }
+{
+    let mut at = from;
+    loop {
+        match turn(at)? {
+            Turn::More(next) => at = next,
+            Turn::Last(last) => return Ok(last),
+        }
     }
 }
 
 // The numbers of a position list.
-fn number_list(text: &[u8], place: usize, from: Cursor, depth: usize) -> Ended
+#[tactic(auto, using(std::proofs::lemmas::Grind::common_steps, crate::proofs::Lists::number_nearer), unfolding(grammar::specs::Modules::numbers))]
+fn number_list(text: &[u8], place: usize, from: Cursor, depth: usize) -> Result<Cursor, Refusal>
     ensures { seen_end result ≡ numbers checks blank text.now depth place from.at tt }
 {
-    let mut at = from.at;
-    loop {
-        match number_turn(text, place, Cursor { at }, depth) {
-            Go::More { next } => {
-                at = next.at;
-            }
-            Go::Last { next } => return Ended::Past { next },
-            Go::Stop { number, place: p } => return Ended::Refused { number, place: p },
-        }
-    }
+    repeat(from, &|at| number_turn(text, place, at, depth))
 }
 
-// Behind `::` of the statement at a place.
-fn position(text: &[u8], place: usize, from: Cursor, depth: usize) -> Ended
+// Behind `::`: a list of numbers, or one.
+#[tactic(auto, using(std::proofs::lemmas::Grind::common_steps, crate::proofs::Lists::handed), unfolding(grammar::specs::Modules::positioned))]
+fn position(text: &[u8], place: usize, from: Cursor, depth: usize) -> Result<Cursor, Refusal>
     ensures { seen_end result ≡ positioned checks blank text.now depth place tt from.at tt }
 {
-    match from.next(text) {
-        Taken::Word {
-            kind,
-            start,
-            value: _,
-            next,
-        } => {
-            if kind == 91 {
-                return number_list(text, start, next, depth);
-            }
-            whole(text, from, depth)
-        }
-        Taken::Refused { number, place: p } => Ended::Refused { number, place: p },
+    let word = from.next(text)?;
+    match word.kind {
+        Kind::OpenSquare => number_list(text, word.start, word.next, depth),
+        _ => whole(text, from, depth),
     }
 }
 
 // Behind the designator of the statement at a place.
-fn aim(text: &[u8], place: usize, from: Cursor, depth: usize) -> Ended
+#[tactic(auto, using(std::proofs::lemmas::Grind::common_steps, crate::proofs::Lists::handed), unfolding(grammar::specs::Modules::aimed))]
+fn aim(text: &[u8], place: usize, from: Cursor, depth: usize) -> Result<Cursor, Refusal>
     ensures { seen_end result ≡ aimed checks blank text.now depth place tt from.at tt }
 {
-    match from.next(text) {
-        Taken::Word {
-            kind,
-            start,
-            value: _,
-            next,
-        } => {
-            if kind == 189 {
-                return whole(text, next, depth);
-            }
-            if kind == 186 {
-                return position(text, place, next, depth);
-            }
-            Ended::Refused {
-                number: 2,
-                place: start,
-            }
-        }
-        Taken::Refused { number, place: p } => Ended::Refused { number, place: p },
+    let word = from.next(text)?;
+    match word.kind {
+        Kind::Becomes => whole(text, word.next, depth),
+        Kind::Place => position(text, place, word.next, depth),
+        _ => Err(Refusal::new(Reason::Grammar, word.start)),
     }
 }
 
 // An assignment or a position, from past its name.
-fn simple_statement(text: &[u8], start: usize, end: Cursor, depth: usize) -> Ended
+#[tactic(auto, using(std::proofs::lemmas::Grind::common_steps), unfolding(grammar::specs::Modules::simple))]
+fn simple_statement(text: &[u8], start: usize, end: Cursor, depth: usize) -> Result<Cursor, Refusal>
     ensures { seen_end result ≡ simple checks blank text.now depth start end.at tt }
 {
-    match indexed(text, start, end, depth) {
-        Ended::Past { next } => aim(text, start, next, depth),
-        Ended::Refused { number, place } => Ended::Refused { number, place },
-    }
+    let next = indexed(text, start, end, depth)?;
+    aim(text, start, next, depth)
 }
 
 // A statement, possibly empty.
 #[cycle(phrasing)]
-fn one_statement(text: &[u8], from: Cursor, depth: usize) -> Ended
+#[tactic(auto, using(std::proofs::lemmas::Grind::common_steps), unfolding(grammar::specs::Modules::statement))]
+fn one_statement(text: &[u8], from: Cursor, depth: usize) -> Result<Cursor, Refusal>
     ensures { seen_end result ≡ statement checks blank text.now depth (for_of checks blank text.now depth) from.at tt }
 {
-    match from.next(text) {
-        Taken::Word {
-            kind,
-            start,
-            value: _,
-            next,
-        } => {
-            if kind == 1 {
-                return simple_statement(text, start, next, depth);
-            }
-            if kind == 200 {
-                return for_loop(text, start, next, depth);
-            }
-            Ended::Past { next: from }
-        }
-        Taken::Refused { number, place } => Ended::Refused { number, place },
+    let word = from.next(text)?;
+    match word.kind {
+        Kind::Name => simple_statement(text, word.start, word.next, depth),
+        Kind::For => for_loop(text, word.start, word.next, depth),
+        _ => Ok(from),
     }
 }
 
 // A statement, and the `;` that another one follows.
 #[cycle(phrasing)]
-fn statement_turn(text: &[u8], from: Cursor, depth: usize) -> Go
+#[tactic(auto, using(std::proofs::lemmas::Grind::common_steps), unfolding(grammar::specs::Modules::statement_turn))]
+fn statement_turn(text: &[u8], from: Cursor, depth: usize) -> Result<Turn, Refusal>
     ensures { seen_go result ≡ statement_turn checks blank text.now depth (for_of checks blank text.now depth) tt from.at tt }
 {
-    match one_statement(text, from, depth) {
-        Ended::Past { next } => match next.next(text) {
-            Taken::Word {
-                kind,
-                start: _,
-                value: _,
-                next: past,
-            } => {
-                if kind == 59 {
-                    return Go::More { next: past };
-                }
-                Go::Last { next }
-            }
-            Taken::Refused { number, place } => Go::Stop { number, place },
-        },
-        Ended::Refused { number, place } => Go::Stop { number, place },
-    }
+    let end = one_statement(text, from, depth)?;
+    let word = end.next(text)?;
+    Ok(match word.kind {
+        Kind::Semicolon => Turn::More(word.next),
+        _ => Turn::Last(end),
+    })
 }
 
 // Statements, separated by `;`, with so many levels of nesting left: where they end, or their refusal.
+// Kept: a loop of its own beside `repeat`, tried: the check does not cover a call with a ghost value within a cycle of calls.
 #[cycle(phrasing)]
-pub fn statement_list(text: &[u8], from: Cursor, depth: usize) -> Ended
+#[tactic(auto, using(std::proofs::lemmas::Grind::common_steps, crate::proofs::Lists::statement_nearer, crate::proofs::Lists::statement_more, crate::proofs::Lists::statement_last))]
+pub fn statement_list(text: &[u8], from: Cursor, depth: usize) -> Result<Cursor, Refusal>
     ensures { seen_end result ≡ checked_statements text.now depth from.at }
 {
-    let mut at = from.at;
+    let mut at = from;
     loop {
-        match statement_turn(text, Cursor { at }, depth) {
-            Go::More { next } => {
-                at = next.at;
-            }
-            Go::Last { next } => return Ended::Past { next },
-            Go::Stop { number, place } => return Ended::Refused { number, place },
+        match statement_turn(text, at, depth)? {
+            Turn::More(next) => at = next,
+            Turn::Last(end) => return Ok(end),
         }
     }
 }
 
-// The statements of a FOR and its END, from behind DO.
+// Behind the FOR at a place: its name, its bounds, its statements and its END. It takes a level.
 #[cycle(phrasing)]
-fn for_body(
-    text: &[u8],
-    place: usize,
-    start: usize,
-    end: usize,
-    from: Cursor,
-    depth: usize,
-) -> Ended
-    ensures { seen_end result ≡ looped checks blank text.now depth (statements checks blank text.now depth (for_of checks blank text.now depth)) place start end tt tt from.at tt }
-{
-    match statement_list(text, from, depth) {
-        Ended::Past { next } => expect(text, 202, next),
-        Ended::Refused { number, place: p } => Ended::Refused { number, place: p },
-    }
-}
-
-// The bounds of a FOR, its statements and its END, from behind its name.
-#[cycle(phrasing)]
-fn for_range(text: &[u8], place: usize, start: usize, end: Cursor, depth: usize) -> Ended
-    ensures { seen_end result ≡ ranged checks blank text.now depth (statements checks blank text.now depth (for_of checks blank text.now depth)) place start end.at tt }
-{
-    match give(text, 174, end, depth) {
-        Ended::Past { next } => match up_to(text, 201, next, depth) {
-            Ended::Past { next: past } => for_body(text, place, start, end.at, past, depth),
-            Ended::Refused { number, place: p } => Ended::Refused { number, place: p },
-        },
-        Ended::Refused { number, place: p } => Ended::Refused { number, place: p },
-    }
-}
-
-// Behind the FOR at a place, with so many levels left within it.
-#[cycle(phrasing)]
-fn for_name(text: &[u8], place: usize, from: Cursor, depth: usize) -> Ended
-    ensures { seen_end result ≡ for_from checks blank text.now depth (statements checks blank text.now depth (for_of checks blank text.now depth)) place from.at tt }
-{
-    match from.next(text) {
-        Taken::Word {
-            kind,
-            start,
-            value: _,
-            next,
-        } => {
-            if kind == 1 {
-                return for_range(text, place, start, next, depth);
-            }
-            Ended::Refused {
-                number: 2,
-                place: start,
-            }
-        }
-        Taken::Refused { number, place: p } => Ended::Refused { number, place: p },
-    }
-}
-
-// Behind the FOR at a place: it takes a level.
-#[cycle(phrasing)]
-fn for_loop(text: &[u8], place: usize, from: Cursor, depth: usize) -> Ended
+#[tactic(auto, using(std::proofs::lemmas::Grind::common_steps, words::proofs::Codes::code_other, crate::proofs::Lists::for_none, crate::proofs::Lists::for_some), unfolding(grammar::specs::Modules::for_from, grammar::specs::Modules::ranged, grammar::specs::Modules::looped))]
+fn for_loop(text: &[u8], place: usize, from: Cursor, depth: usize) -> Result<Cursor, Refusal>
     ensures { seen_end result ≡ for_of checks blank text.now depth place from.at tt }
 {
     if depth == 0 {
-        return Ended::Refused { number: 6, place };
+        return Err(Refusal::new(Reason::Limit, place));
     }
-    for_name(text, place, from, depth - 1)
+    let name = from.next(text)?;
+    if name.kind != Kind::Name {
+        return Err(Refusal::new(Reason::Grammar, name.start));
+    }
+    let first = give(text, Kind::Range, name.next, depth - 1)?;
+    let last = up_to(text, Kind::Do, first, depth - 1)?;
+    let body = statement_list(text, last, depth - 1)?;
+    expect(text, Kind::End, body)
 }

@@ -15,7 +15,7 @@ use judging::{Read, Scope, Sort, Step};
 use words::{Cursor, Kind};
 
 // The two levels of operators: sums have terms between their operators, products have factors.
-#[derive(Clone, Copy, Debug, PartialEq, Eq)]
+#[derive(Clone, Copy)]
 pub enum Level {
     Sum,
     Product,
@@ -33,6 +33,7 @@ fn is_operator(level: Level, kind: Kind) -> bool
 
 // An expression in what opens at a place: one level fewer is left.
 #[cycle(reading)]
+#[tactic(auto, using(std::proofs::lemmas::Grind::common_steps, crate::proofs::Links::inner_some, crate::proofs::Links::inner_none))]
 pub fn inner(
     scope: Scope,
     room: &mut [u32],
@@ -52,7 +53,7 @@ pub fn inner(
 
 // An expression in what opens at a place, and the word of a kind.
 #[cycle(reading)]
-#[tactic(auto, using(std::proofs::lemmas::Grind::common_steps, words::proofs::Codes::code_other), unfolding(grammar::specs::Grammar::part, grammar::specs::Grammar::closed))]
+#[tactic(auto, using(std::proofs::lemmas::Grind::common_steps), unfolding(grammar::specs::Grammar::part, grammar::specs::Grammar::closed))]
 fn part(
     scope: Scope,
     room: &mut [u32],
@@ -93,14 +94,23 @@ fn bracket(
     ensures { seen result (room.new, count.new) ≡ bracket_of scope.entry.text.now scope.entry.names.now depth (sort_of sort) start end place from.at (room.old, count.old) }
 {
     let base = scope.open(sort, start, end, place)?;
-    let index = part(scope, room, count, sort.of_index(), place, Kind::CloseSquare, from, depth)?;
+    let index = part(
+        scope,
+        room,
+        count,
+        sort.of_index(),
+        place,
+        Kind::CloseSquare,
+        from,
+        depth,
+    )?;
     let verdict = judging::element(sort, start, place, base, index.value)?;
     judging::put(room, count, verdict, start, index.next)
 }
 
 // Past a name: an index, or nothing.
 #[cycle(reading)]
-#[tactic(auto, using(std::proofs::lemmas::Grind::common_steps), unfolding(grammar::specs::Grammar::named))]
+#[tactic(auto, using(std::proofs::lemmas::Grind::common_steps, crate::proofs::Links::word_past), unfolding(grammar::specs::Grammar::named))]
 pub fn index(
     scope: Scope,
     room: &mut [u32],
@@ -124,7 +134,7 @@ pub fn index(
 
 // MUX at a place, from past it.
 #[cycle(reading)]
-#[tactic(auto, using(std::proofs::lemmas::Grind::common_steps), unfolding(grammar::specs::Grammar::muxed, grammar::specs::Grammar::mux_second, grammar::specs::Grammar::mux_third))]
+#[tactic(auto, using(std::proofs::lemmas::Grind::common_steps, crate::proofs::Links::word_past, crate::proofs::Links::part_past), unfolding(grammar::specs::Grammar::muxed, grammar::specs::Grammar::mux_second, grammar::specs::Grammar::mux_third))]
 fn mux(
     scope: Scope,
     room: &mut [u32],
@@ -141,15 +151,48 @@ fn mux(
         return Err(Refusal::new(Reason::Grammar, open.start));
     }
     let at = open.start;
-    let first = part(scope, room, count, sort.of_part(), at, Kind::Colon, open.next, depth)?;
-    let second = part(scope, room, count, sort.of_part(), at, Kind::Comma, first.next, depth)?;
-    let third = part(scope, room, count, sort.of_part(), at, Kind::Close, second.next, depth)?;
-    judging::put(room, count, judging::mark(sort, judging::MUX, place)?, place, third.next)
+    let first = part(
+        scope,
+        room,
+        count,
+        sort.of_part(),
+        at,
+        Kind::Colon,
+        open.next,
+        depth,
+    )?;
+    let second = part(
+        scope,
+        room,
+        count,
+        sort.of_part(),
+        at,
+        Kind::Comma,
+        first.next,
+        depth,
+    )?;
+    let third = part(
+        scope,
+        room,
+        count,
+        sort.of_part(),
+        at,
+        Kind::Close,
+        second.next,
+        depth,
+    )?;
+    judging::put(
+        room,
+        count,
+        judging::mark(sort, judging::MUX, place)?,
+        place,
+        third.next,
+    )
 }
 
 // REG at a place, from past it.
 #[cycle(reading)]
-#[tactic(auto, using(std::proofs::lemmas::Grind::common_steps), unfolding(grammar::specs::Grammar::regged, grammar::specs::Grammar::kept))]
+#[tactic(auto, using(std::proofs::lemmas::Grind::common_steps, crate::proofs::Links::word_past, crate::proofs::Links::inner_past), unfolding(grammar::specs::Grammar::regged, grammar::specs::Grammar::kept))]
 fn reg(
     scope: Scope,
     room: &mut [u32],
@@ -169,10 +212,31 @@ fn reg(
     let first = inner(scope, room, count, sort.of_part(), at, open.next, depth)?;
     let word = first.next.next(scope.text)?;
     match word.kind {
-        Kind::Close => judging::put(room, count, judging::mark(sort, judging::REG, place)?, place, word.next),
+        Kind::Close => judging::put(
+            room,
+            count,
+            judging::mark(sort, judging::REG, place)?,
+            place,
+            word.next,
+        ),
         Kind::Comma => {
-            let second = part(scope, room, count, sort.of_part(), at, Kind::Close, word.next, depth)?;
-            judging::put(room, count, judging::mark(sort, judging::HELD, place)?, place, second.next)
+            let second = part(
+                scope,
+                room,
+                count,
+                sort.of_part(),
+                at,
+                Kind::Close,
+                word.next,
+                depth,
+            )?;
+            judging::put(
+                room,
+                count,
+                judging::mark(sort, judging::HELD, place)?,
+                place,
+                second.next,
+            )
         }
         _ => Err(Refusal::new(Reason::Grammar, word.start)),
     }
@@ -180,7 +244,7 @@ fn reg(
 
 // A ~ at a place, from past it: a factor within it, with one level fewer left.
 #[cycle(reading)]
-#[tactic(auto, using(std::proofs::lemmas::Grind::common_steps), unfolding(grammar::specs::Grammar::inverted))]
+#[tactic(auto, using(std::proofs::lemmas::Grind::common_steps, crate::proofs::Links::negated_some, crate::proofs::Links::inner_none), unfolding(grammar::specs::Grammar::inverted))]
 fn invert(
     scope: Scope,
     room: &mut [u32],
@@ -196,11 +260,17 @@ fn invert(
         return Err(Refusal::new(Reason::Limit, place));
     }
     let read = factor(scope, room, count, sort, from, depth - 1)?;
-    judging::put(room, count, judging::mark(sort, judging::NOT, place)?, place, read.next)
+    judging::put(
+        room,
+        count,
+        judging::mark(sort, judging::NOT, place)?,
+        place,
+        read.next,
+    )
 }
 
 #[cycle(reading)]
-#[tactic(auto, using(std::proofs::lemmas::Grind::common_steps), unfolding(grammar::specs::Grammar::factor))]
+#[tactic(auto, using(std::proofs::lemmas::Grind::common_steps, crate::proofs::Links::word_past), unfolding(grammar::specs::Grammar::factor))]
 fn factor(
     scope: Scope,
     room: &mut [u32],
@@ -214,11 +284,32 @@ fn factor(
     let word = from.next(scope.text)?;
     let start = word.start;
     match word.kind {
-        Kind::Number => judging::put(room, count, judging::literal(sort, start, word.value)?, start, word.next),
+        Kind::Number => judging::put(
+            room,
+            count,
+            judging::literal(sort, start, word.value)?,
+            start,
+            word.next,
+        ),
         Kind::Large => Err(Refusal::new(Reason::Arithmetic, start)),
-        Kind::Logic => judging::put(room, count, judging::logic(sort, start, word.value)?, start, word.next),
+        Kind::Logic => judging::put(
+            room,
+            count,
+            judging::logic(sort, start, word.value)?,
+            start,
+            word.next,
+        ),
         Kind::Name => index(scope, room, count, sort, start, word.next, depth),
-        Kind::Open => part(scope, room, count, sort, start, Kind::Close, word.next, depth),
+        Kind::Open => part(
+            scope,
+            room,
+            count,
+            sort,
+            start,
+            Kind::Close,
+            word.next,
+            depth,
+        ),
         Kind::Tilde => invert(scope, room, count, sort, start, word.next, depth),
         Kind::Mux => mux(scope, room, count, sort, start, word.next, depth),
         Kind::Reg => reg(scope, room, count, sort, start, word.next, depth),
@@ -247,7 +338,7 @@ fn operand(
 
 // Behind an operand: an operator and the next one, or the end of the chain.
 #[cycle(reading)]
-#[tactic(auto, using(std::proofs::lemmas::Grind::common_steps), unfolding(grammar::specs::Grammar::turn))]
+#[tactic(auto, using(std::proofs::lemmas::Grind::common_steps, crate::proofs::Links::word_gone, crate::proofs::Links::operator_real, crate::proofs::Links::operand_low), unfolding(grammar::specs::Grammar::turn))]
 fn turn(
     scope: Scope,
     room: &mut [u32],
@@ -270,6 +361,7 @@ fn turn(
 
 // Behind a first operand: all turns of the chain.
 #[cycle(reading)]
+#[tactic(auto, using(std::proofs::lemmas::Grind::common_steps, crate::proofs::Links::chain_last))]
 fn chain(
     scope: Scope,
     room: &mut [u32],
@@ -292,7 +384,7 @@ fn chain(
 
 // Operands with the operators of a level between them.
 #[cycle(reading)]
-#[tactic(auto, using(std::proofs::lemmas::Grind::common_steps), unfolding(grammar::specs::Grammar::expression, grammar::specs::Grammar::term, grammar::specs::Grammar::level))]
+#[tactic(auto, using(std::proofs::lemmas::Grind::common_steps, crate::proofs::Links::operand_past), unfolding(grammar::specs::Grammar::expression, grammar::specs::Grammar::term, grammar::specs::Grammar::level))]
 fn operands(
     scope: Scope,
     room: &mut [u32],

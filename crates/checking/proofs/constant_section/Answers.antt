@@ -1,17 +1,8 @@
-use borrow.Author.Tests.{eq-eqb, ne_eqb}
-use Rattle.grammar.specs.Modules.{constants}
+use Rattle.std.proofs.Common.{rules, of_calls}
+use Rattle.std.specs.Fn.Refs.{fn_at_ref}
+use contract.BorrowLft.{⊑_meet}
+use Rattle.checking.proofs.Sections.{constant_nearer}
 use Rattle.checking.proofs.constant_section.Goals as goal
 
-pub returns-then-kind : goal.returns-then-kind
-unfolding constants
-returns-then-kind c =
-    simp (← c.constant_list.ensures, eq-eqb _ _ c.if-kind.true, c.in-Word.is, ← c.next.ensures)
-
-pub returns-else-kind : goal.returns-else-kind
-unfolding constants
-returns-else-kind c =
-    simp (ne_eqb _ _ c.if-kind.false, c.in-Word.is, ← c.next.ensures)
-
-pub returns-in-Refused : goal.returns-in-Refused
-unfolding constants
-returns-in-Refused c = simp (c.in-Refused.is, ← c.next.ensures)
+pub repeat-requires : goal.repeat-requires
+repeat-requires c κs within = (search (⊑_meet, rules, within.0, within.1.0) depth 12 fits 9000, (search (of_calls, fn_at_ref) parts 8, ((λ at r p. search (rules, p.1)), constant_nearer _)))

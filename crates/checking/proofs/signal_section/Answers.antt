@@ -1,17 +1,8 @@
-use borrow.Author.Tests.{eq-eqb, ne_eqb}
-use Rattle.grammar.specs.Modules.{lists}
+use Rattle.std.proofs.Common.{rules, of_calls}
+use Rattle.std.specs.Fn.Refs.{fn_at_ref}
+use contract.BorrowLft.{⊑_meet}
+use Rattle.checking.proofs.Sections.{list_nearer}
 use Rattle.checking.proofs.signal_section.Goals as goal
 
-pub returns-then-kind-class : goal.returns-then-kind-class
-unfolding lists
-returns-then-kind-class c =
-    simp (← c.signal_lists.ensures, eq-eqb _ _ c.if-kind-class.true, c.in-Word.is, ← c.next.ensures)
-
-pub returns-else-kind-class : goal.returns-else-kind-class
-unfolding lists
-returns-else-kind-class c =
-    simp (ne_eqb _ _ c.if-kind-class.false, c.in-Word.is, ← c.next.ensures)
-
-pub returns-in-Refused : goal.returns-in-Refused
-unfolding lists
-returns-in-Refused c = simp (c.in-Refused.is, ← c.next.ensures)
+pub repeat-requires : goal.repeat-requires
+repeat-requires c κs within = (search (⊑_meet, rules, within.0, within.1.0, within.1.1.0) depth 12 fits 9000, (search (of_calls, fn_at_ref) parts 8, ((λ at r p. search (rules, p.1)), list_nearer _ _)))

@@ -1,4 +1,4 @@
--- The cycle of calls that checks statements. Each measure is seven times the levels left, and a rank.
+-- The cycle of calls that checks statements. Each measure is four times the levels left, and a rank.
 -- Assumes nothing.
 use mathlib.Core.Path.{◌≡◌}
 use Prim.Native.Nat.{◌+◌, ◌-◌, ◌*◌}
@@ -6,29 +6,20 @@ use lib.ListN.{length}
 use Rattle.grammar.specs.Forms.{checked_statements}
 use Rattle.phrases.proofs.+phrasing.Given as goal
 
-abbrev pub decreases-for_body : goal.decreases-for_body
-decreases-for_body l = l.depth * 7 + 4
-
 abbrev pub decreases-for_loop : goal.decreases-for_loop
-decreases-for_loop l = l.depth * 7
-
-abbrev pub decreases-for_name : goal.decreases-for_name
-decreases-for_name l = l.depth * 7 + 6
-
-abbrev pub decreases-for_range : goal.decreases-for_range
-decreases-for_range l = l.depth * 7 + 5
+decreases-for_loop l = l.depth * 4
 
 abbrev pub decreases-one_statement : goal.decreases-one_statement
-decreases-one_statement l = l.depth * 7 + 1
-
-abbrev pub decreases-statement_list : goal.decreases-statement_list
-decreases-statement_list l = l.depth * 7 + 3
+decreases-one_statement l = l.depth * 4 + 1
 
 abbrev pub decreases-statement_turn : goal.decreases-statement_turn
-decreases-statement_turn l = l.depth * 7 + 2
+decreases-statement_turn l = l.depth * 4 + 2
+
+abbrev pub decreases-statement_list : goal.decreases-statement_list
+decreases-statement_list l = l.depth * 4 + 3
 
 abbrev pub invariant-statement_list-loop-next : goal.invariant-statement_list-loop-next
-invariant-statement_list-loop-next l = checked_statements l.text l.depth l.at ≡ checked_statements l.text l.depth l.initial.at
+invariant-statement_list-loop-next l = checked_statements l.text l.depth l.at.at ≡ checked_statements l.text l.depth l.initial.at.at
 
 abbrev pub decreases-statement_list-loop-next : goal.decreases-statement_list-loop-next
-decreases-statement_list-loop-next l = length l.text - l.at
+decreases-statement_list-loop-next l = length l.text - l.at.at

@@ -1,16 +1,8 @@
-use mathlib.Core.Path.{sym, ap, ◌∙◌}
-use Rattle.phrases.specs.Seen.{seen_go}
-use Rattle.phrases.proofs.Lists.{number_falls, number_more, number_last}
+use Rattle.std.proofs.Common.{rules, of_calls}
+use Rattle.std.specs.Fn.Refs.{fn_at_ref}
+use contract.BorrowLft.{⊑_meet}
+use Rattle.phrases.proofs.Lists.{number_nearer}
 use Rattle.phrases.proofs.number_list.Goals as goal
 
-pub loop-next-smaller : goal.loop-next-smaller
-loop-next-smaller c = number_falls _ _ _ _ _ (sym c.number_turn.ensures ∙ ap seen_go c.in-More.is)
-
-pub loop-next-preserved : goal.loop-next-preserved
-loop-next-preserved c = sym (number_more _ _ _ _ _ (sym c.number_turn.ensures ∙ ap seen_go c.in-More.is)) ∙ c.loop-next.invariant
-
-pub returns-in-Last : goal.returns-in-Last
-returns-in-Last c = sym (number_last _ _ _ _ _ (sym c.number_turn.ensures ∙ ap seen_go c.in-Last.is)) ∙ c.loop-next.invariant
-
-pub returns-in-Stop : goal.returns-in-Stop
-returns-in-Stop c = sym (number_last _ _ _ _ _ (sym c.number_turn.ensures ∙ ap seen_go c.in-Stop.is)) ∙ c.loop-next.invariant
+pub repeat-requires : goal.repeat-requires
+repeat-requires c κs within = (search (⊑_meet, rules, within.0, within.1.0, within.1.1.0, within.1.1.1.0) depth 12 fits 9000, (search (of_calls, fn_at_ref) parts 8, ((λ at r p. search (rules, p.1)), number_nearer _ _ _)))

@@ -2,7 +2,7 @@
 -- taken, and a rank for the calls at one place.
 -- Assumes nothing.
 use mathlib.Core.Path.{◌≡◌}
-use Prim.Native.Nat.{ℕ, ◌+◌, ◌-◌, ◌*◌, ◌≤◌}
+use Prim.Native.Nat.{◌+◌, ◌-◌, ◌*◌, ◌≤◌}
 use lib.ListN.{length}
 use Rattle.integers.specs.Integers.{num}
 use Rattle.judging.specs.Judging.{sort_of}
@@ -54,7 +54,7 @@ invariant-chain-loop-read l =
     record {
       nearer : length l.scope.text.now - l.left.next.at ≤ length l.scope.text.now - l.initial.left.next.at;
       says : chain_of l.scope.text.now l.scope.names.now l.depth l.level (sort_of l.sort) (num l.left.value) l.left.next.at (l.room, l.count)
-          ≡ chain_of l.scope.text.now l.scope.names.now l.depth l.level (sort_of l.sort) (num l.initial.left.value) l.initial.left.next.at (l.initial.room, l.initial.count)
+          ≡ chain_of l.scope.text.now l.scope.names.now l.depth l.level (sort_of l.sort) (num l.initial.left.value) l.initial.left.next.at (l.initial.room, l.initial.count);
     }
 
 abbrev pub decreases-chain-loop-read : goal.decreases-chain-loop-read
