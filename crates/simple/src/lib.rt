@@ -22,9 +22,9 @@ pub struct Aim {
 }
 
 // How many statements and rounds of a FOR there may be together, and the place of the lent memory that they are counted at.
-const STATEMENTS: u32 = 4096;
+pub const STATEMENTS: u32 = 4096;
 
-const USED_AT: usize = 2585;
+pub const USED_AT: usize = 2585;
 
 // The target whose name is from start on to end.
 #[tactic(auto, using(std::proofs::lemmas::Grind::common_steps), unfolding(crate::specs::Statements::target_of))]
