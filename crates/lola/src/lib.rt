@@ -30,7 +30,7 @@ fn carry_out(
 }
 
 // Lets a text pass by stages 1 to 5, or refuses it. Where it is let pass its elements are in parts.
-#[tactic(auto, using(std::proofs::lemmas::Grind::common_steps), unfolding(texts::specs::Stages::front_of, texts::specs::Stages::second, texts::specs::Stages::third))]
+#[tactic(auto, using(std::proofs::lemmas::Grind::common_steps), unfolding(texts::specs::Stages::front_of, texts::specs::Stages::second))]
 pub fn front(text: &[u8], parts: &mut [u32]) -> Result<(), Refusal>
     requires { parts.old ≡ replicate 2588 0 }
     ensures { seen_front result parts.new ≡ front_of text.now }
