@@ -112,6 +112,7 @@ fn number_turn(
 }
 
 // The numbers of a list, behind its `[`.
+#[tactic(auto, using(std::proofs::lemmas::Grind::common_steps, crate::proofs::Laws::numbers_more, crate::proofs::Laws::numbers_last, crate::proofs::Laws::numbers_falls), unfolding(crate::specs::Statements::numbers_of))]
 fn numbers(
     scope: Scope,
     room: &mut [u32],
@@ -284,7 +285,7 @@ fn act(
 }
 
 // A simple statement: it is counted first.
-#[tactic(auto, using(std::proofs::lemmas::Grind::common_steps), unfolding(crate::specs::Statements::simple_of))]
+#[tactic(auto, using(std::proofs::lemmas::Grind::common_steps, parts::proofs::Runs::none_more), unfolding(crate::specs::Statements::simple_of))]
 pub fn simple(
     scope: Scope,
     room: &mut [u32],
