@@ -1,20 +1,19 @@
 -- Declarations go forward, so those of a section are the first and then the rest; sections one by one.
 -- Assumes nothing.
-use mathlib.Core.Path.{◌≡◌, sym, ap, ◌∙◌}
-use mathlib.Core.Bool.{Bool, false}
-use mathlib.Core.List.{List}
+use Rattle.std.proofs.Common.{drop-cons, add-one, drop_of_length-le}
+use mathlib.Core.Path.{◌≡◌, refl, sym, ap, ◌∙◌}
+use mathlib.Core.Bool.{true, false}
+use mathlib.Core.List.{List, [], ◌∷◌}
 use Prim.Native.Nat.{ℕ, suc, ◌+◌, ◌-◌, ◌<◌, ◌≤◌}
 use native.Mathlib.Omega.{arith}
-use lib.ListN.{length, get_or, take, drop, length-drop}
-use lib.Seq.{take_all}
+use lib.ListN.{length, get_or, drop}
 use lib.Dec.{eqb, leb}
 use lib.IntN.{ℤ, pos}
-use borrow.Author.Tests.{eq-eqb, ne_eqb}
 use Rattle.words.specs.declared.Cursor.{Cursor}
-use Rattle.words.specs.Taken.{Word}
+use Rattle.words.specs.Taken.{Word, Refused}
 use Rattle.words.specs.Words.{next_word}
 use Rattle.words.proofs.Forward.{next_forward}
-use Rattle.names.specs.Names.{looked_up, held}
+use Rattle.names.specs.Names.{looked_up}
 use Rattle.grammar.specs.Outcome.{Outcome, ok, no, Turn, more, last, on_word, and_then, levels}
 use Rattle.grammar.specs.Grammar.{closed, turned}
 use Rattle.grammar.specs.Modules.{repeat}
@@ -23,12 +22,12 @@ use Rattle.grammar.proofs.Turns.{turn_pick, turn_word, repeat_more, repeat_last,
 use Rattle.judging.specs.Reading.{State, reads}
 use Rattle.readers.specs.Readers.{inner_of, expression_of}
 use Rattle.parts.specs.Parts.{elements_at, constants_at, allows, one_more}
-use Rattle.parts.proofs.Runs.{none_more}
 use Rattle.simple.specs.Statements.{upward}
 use Rattle.lists.specs.Lists.{is_known, fresh_of, is_length, closed_type, length_of, type_of}
 use Rattle.lists.proofs.Laws.{near_fresh}
-use Rattle.declare.specs.declared.Made.{Made}
-use Rattle.declare.specs.Declarations.{seen_made, seen_turn, with_constant, width_of, element_name, constant_end, constant_from, constant_of, element_turn, elements_of, list_end, signals_from, signals_of, item_of, item_turn, section_of, sections_of}
+use Rattle.declare.specs.declared.Section.{Section}
+use Rattle.declare.specs.declared.Section.TheVariants.{Constants, In, Out, Var}
+use Rattle.declare.specs.Declarations.{class_of, declarations_of, with_constant, width_of, element_name, constant_end, constant_from, constant_of, element_turn, elements_of, list_end, signals_from, signals_of, item_of, item_turn, section_of, sections_of}
 
 module _ (s : List ℕ) where
   -- a word was taken from a place at or behind the one that is counted from
@@ -153,117 +152,84 @@ module _ (s : List ℕ) where
     pub elements_falls : (t u : List ℕ) (at e : ℕ) (x y : State) → element_turn s c n t at x ≡ more u e y → length s - e < length s - at
     elements_falls = repeat_falls s (element_turn s c n) (element-far c n)
 
--- the names of a table, as they are lent
-pub lent_whole : (l u : List ℕ) (n : ℕ) → length l ≡ 640 → n ≤ 640 → drop n l ≡ u → take (640 - n) (drop n l) ≡ u
-lent_whole l u n e h q = take_all (640 - n) (drop n l) (simp length-drop (omega arith)) ∙ q
+-- by the next word: a declaration, or the section's end
+module _ (s : List ℕ) (c : ℕ) (t : List ℕ) (at : ℕ) (x : State) where
+  module _ (k st v : ℕ) (p : Cursor) (w : Word k st v p ≡ next_word s at) where
+    item-turns : eqb k 1 ≡ true → (o : Outcome State (List ℕ)) → o ≡ item_of s c t at st p.at x → item_turn s c t at x ≡ turned o
+    unfolding item_turn
+    item-turns h o q = rw (← w, h) (ap turned (sym q))
 
--- ---- what the code did, as the definitions say it
+    pub item_more : eqb k 1 ≡ true → (u : List ℕ) (e : ℕ) (y : State) → ok u e y ≡ item_of s c t at st p.at x → items s c t at x ≡ items s c u e y
+    item_more h u e y q = items_more s c t u at e x y (item-turns h (ok u e y) q)
 
-module _ (s : List ℕ) where
-  pub constant_full : (t : List ℕ) (st e : ℕ) (x : State) (l : List ℕ) (a b : Bool) → a ≡ false → a ≡ is_known (looked_up s t st (e - st)) → b ≡ false
-      → b ≡ allows x.0 constants_at 32 → l ≡ one_more x.0 constants_at 32 → no 6 st (l, x.1) ≡ constant_of s t st e x
-  unfolding constant_of
-  constant_full t st e x l a b n m f g q = rw (q ∙ none_more x.0 constants_at 32 (sym g ∙ f)) (simp (sym m ∙ n, sym g ∙ f))
+    pub item_falls : eqb k 1 ≡ true → (u : List ℕ) (e : ℕ) (y : State) → ok u e y ≡ item_of s c t at st p.at x → length s - e < length s - at
+    item_falls h u e y q = items_falls s c t u at e x y (item-turns h (ok u e y) q)
 
-  -- the names that are lent are those of the table
-  module _ (t u : List ℕ) (lent : u ≡ t) where
-    pub element_goes : (c n at : ℕ) (x : State) (k st v : ℕ) (p : Cursor) (r : Turn State (List ℕ)) → Word k st v p ≡ next_word s at → k ≡ 1
-        → r ≡ element_name c n u st p.at x → r ≡ element_turn s c n t at x
+    pub item_last : eqb k 1 ≡ true → (n q : ℕ) (y : State) → no n q y ≡ item_of s c t at st p.at x → items s c t at x ≡ no n q y
+    item_last h n q y r = items_last s c t at x (no n q y) (item-turns h (no n q y) r)
+
+    pub items_end : eqb k 1 ≡ false → items s c t at x ≡ ok t at x
+    items_end h = items_last s c t at x (ok t at x) (unfold item_turn in rw (← w, h) refl)
+
+  pub items_none : (n q : ℕ) → Refused n q ≡ next_word s at → items s c t at x ≡ no n q x
+  items_none n q w = items_last s c t at x (no n q x) (unfold item_turn in rw (← w) refl)
+
+-- a name of a list, a comma, or what is behind the names
+module _ (s : List ℕ) (c n : ℕ) (t : List ℕ) (at : ℕ) (x : State) where
+  module _ (k st v : ℕ) (p : Cursor) (w : Word k st v p ≡ next_word s at) where
+    name-turns : eqb k 1 ≡ true → (r : Turn State (List ℕ)) → r ≡ element_name c n t st p.at x → element_turn s c n t at x ≡ r
     unfolding element_turn
-    element_goes c n at x k st v p r taken h o =
-        o ∙ ap (λ (u : List ℕ). element_name c n u st p.at x) lent ∙ rw (← taken) (simp (eq-eqb _ _ h))
+    name-turns h r q = rw (← w, h) (sym q)
 
-    pub type_goes : (c first at : ℕ) (x : State) (z : ℤ) (e : ℕ) (y : State) (r : Outcome State (List ℕ)) → ok z e y ≡ type_of s u at x
-        → r ≡ list_end s c t first z e y → r ≡ and_then (type_of s t at x) (list_end s c t first)
-    type_goes c first at x z e y r m o =
-        o ∙ ap (λ (o : Outcome State ℤ). and_then o (list_end s c t first)) (m ∙ ap (λ (u : List ℕ). type_of s u at x) lent)
+    comma-turns : eqb k 1 ≡ false → eqb k 44 ≡ true → element_turn s c n t at x ≡ more t p.at x
+    unfolding element_turn
+    comma-turns g h = rw (← w, g, h) refl
 
-    pub type_halts : (c first at : ℕ) (x : State) (n p : ℕ) (y : State) → no n p y ≡ type_of s u at x
-        → no n p y ≡ and_then (type_of s t at x) (list_end s c t first)
-    type_halts c first at x n p y m = ap (λ (o : Outcome State ℤ). and_then o (list_end s c t first)) (m ∙ ap (λ (u : List ℕ). type_of s u at x) lent)
+    pub name_more : eqb k 1 ≡ true → (u : List ℕ) (e : ℕ) (y : State) → more u e y ≡ element_name c n t st p.at x → elements s c n t at x ≡ elements s c n u e y
+    name_more h u e y q = elements_more s c n t u at e x y (name-turns h (more u e y) q)
 
-    pub signals_goes : (c first : ℕ) (x : State) (v a : ℕ) (r : Outcome State (List ℕ)) → ok v a tt ≡ fresh_of s u first
-        → r ≡ and_then (type_of s t a x) (list_end s c t first) → r ≡ signals_of s c t first x
-    unfolding signals_of
-    signals_goes c first x v a r m o = o ∙ ap (signals_from s c t first x) (m ∙ ap (λ (u : List ℕ). fresh_of s u first) lent)
+    pub name_falls : eqb k 1 ≡ true → (u : List ℕ) (e : ℕ) (y : State) → more u e y ≡ element_name c n t st p.at x → length s - e < length s - at
+    name_falls h u e y q = elements_falls s c n t u at e x y (name-turns h (more u e y) q)
 
-    pub signals_halts : (c first : ℕ) (x : State) (n p : ℕ) → no n p tt ≡ fresh_of s u first → no n p x ≡ signals_of s c t first x
-    unfolding signals_of
-    signals_halts c first x n p m = ap (signals_from s c t first x) (m ∙ ap (λ (u : List ℕ). fresh_of s u first) lent)
+    pub name_last : eqb k 1 ≡ true → (r : Outcome State (List ℕ)) → last r ≡ element_name c n t st p.at x → elements s c n t at x ≡ r
+    name_last h r q = elements_last s c n t at x r (name-turns h (last r) q)
 
-    pub item_constant : (c at st e : ℕ) (x : State) (r : Outcome State (List ℕ)) → c ≡ 0 → r ≡ constant_of s u st e x → r ≡ item_of s c t at st e x
-    unfolding item_of
-    item_constant c at st e x r h o = o ∙ ap (λ (u : List ℕ). constant_of s u st e x) lent ∙ simp (eq-eqb _ _ h)
+    pub comma_more : eqb k 1 ≡ false → eqb k 44 ≡ true → elements s c n t at x ≡ elements s c n t p.at x
+    comma_more g h = elements_more s c n t t at p.at x x (comma-turns g h)
 
-  -- by the mode of what was made
-  module _ (m : Made) (room : List ℕ) where
-    pub made_no : m.mode ≡ 0 → seen_made m room ≡ no m.number m.place (room, m.count)
-    made_no h = simp (eq-eqb _ _ h)
+    pub comma_falls : eqb k 1 ≡ false → eqb k 44 ≡ true → length s - p.at < length s - at
+    comma_falls g h = elements_falls s c n t t at p.at x x (comma-turns g h)
 
-    pub made_ok : (m.mode ≡ 0 → ⊥) → seen_made m room ≡ ok (held m.table) m.next.at (room, m.count)
-    made_ok h = simp (ne_eqb _ _ h)
+    pub names_end : eqb k 1 ≡ false → eqb k 44 ≡ false → elements s c n t at x ≡ ok t at x
+    names_end g h = elements_last s c n t at x (ok t at x) (unfold element_turn in rw (← w, g, h) refl)
 
-    not-one : m.mode ≡ 0 → m.mode ≡ 1 → ⊥
-    not-one h e = let q : m.mode ≡ 0 = h in omega arith
-
-    turn-no : m.mode ≡ 0 → seen_turn m room ≡ last (no m.number m.place (room, m.count))
-    turn-no h = simp (ne_eqb _ _ (not-one h), eq-eqb _ _ h)
-
-    refused-turn : (o : Outcome State (List ℕ)) → m.mode ≡ 0 → seen_made m room ≡ o → seen_turn m room ≡ turned o
-    refused-turn o h e = turn-no h ∙ ap turned (sym (made_no h) ∙ e)
-
-    pub item_stops : (c : ℕ) (t : List ℕ) (at : ℕ) (x : State) (k st v : ℕ) (p : Cursor) → Word k st v p ≡ next_word s at → k ≡ 1 → m.mode ≡ 0
-        → seen_made m room ≡ item_of s c t at st p.at x → seen_turn m room ≡ item_turn s c t at x
-    unfolding item_turn
-    item_stops c t at x k st v p taken h z e = refused-turn (item_of s c t at st p.at x) z e ∙ rw (← taken) (simp (eq-eqb _ _ h))
-
-    pub item_goes : (c : ℕ) (t : List ℕ) (at : ℕ) (x : State) (k st v : ℕ) (p : Cursor) → Word k st v p ≡ next_word s at → k ≡ 1 → (m.mode ≡ 0 → ⊥)
-        → seen_made m room ≡ item_of s c t at st p.at x → more (held m.table) m.next.at (room, m.count) ≡ item_turn s c t at x
-    unfolding item_turn
-    item_goes c t at x k st v p taken h z e =
-        ap turned (sym (made_ok z) ∙ e) ∙ rw (← taken) (simp (eq-eqb _ _ h))
-
-    pub turn_more : (r : Turn State (List ℕ)) → m.mode ≡ 1 → seen_turn m room ≡ r → r ≡ more (held m.table) m.next.at (room, m.count)
-    turn_more r h e = sym e ∙ simp (eq-eqb _ _ h)
-
-    pub turn_last : (r : Turn State (List ℕ)) → (m.mode ≡ 1 → ⊥) → seen_turn m room ≡ r → r ≡ last (seen_made m room)
-    turn_last r h e = sym e ∙ simp (ne_eqb _ _ h)
-
-    pub list_goes : (c : ℕ) (t : List ℕ) (first : ℕ) (z : ℤ) (at : ℕ) (y : State) (k st v : ℕ) (p : Cursor) → Word k st v p ≡ next_word s at → k ≡ 59 → (m.mode ≡ 0 → ⊥)
-        → seen_made m room ≡ elements_of s c (upward z) t first y → ok (held m.table) p.at (room, m.count) ≡ list_end s c t first z at y
-    unfolding list_end
-    list_goes c t first z at y k st v p taken h n e =
-        ap (λ (o : Outcome State (List ℕ)). and_then o (λ u e y. ok u p.at y)) (sym (made_ok n) ∙ e) ∙ rw (← taken) (simp (eq-eqb _ _ h))
-
-    pub list_stops : (c : ℕ) (t : List ℕ) (first : ℕ) (z : ℤ) (at : ℕ) (y : State) (k st v : ℕ) (p : Cursor) → Word k st v p ≡ next_word s at → k ≡ 59 → m.mode ≡ 0
-        → seen_made m room ≡ elements_of s c (upward z) t first y → seen_made m room ≡ list_end s c t first z at y
-    unfolding list_end
-    list_stops c t first z at y k st v p taken h n e =
-        made_no n ∙ ap (λ (o : Outcome State (List ℕ)). and_then o (λ u e y. ok u p.at y)) (sym (made_no n) ∙ e) ∙ rw (← taken) (simp (eq-eqb _ _ h))
-
-  pub item_signals : (c : ℕ) (t : List ℕ) (at st e : ℕ) (x : State) (r : Outcome State (List ℕ)) → (c ≡ 0 → ⊥) → r ≡ signals_of s c t at x → r ≡ item_of s c t at st e x
-  unfolding item_of
-  item_signals c t at st e x r h o = o ∙ simp (ne_eqb _ _ h)
+  pub names_none : (n' q : ℕ) → Refused n' q ≡ next_word s at → elements s c n t at x ≡ no n' q x
+  names_none n' q w = elements_last s c n t at x (no n' q x) (unfold element_turn in rw (← w) refl)
 
 -- sections, one by one
-module _ (s : List ℕ) (c : ℕ) (t : List ℕ) (at : ℕ) (x : State) where
-  one_left : c < 4 → 4 - c ≡ suc (4 - (c + 1))
-  one_left h = omega arith
+module _ (s : List ℕ) where
+  unfoldable pub declared : List Section → List ℕ → ℕ → State → Outcome State (List ℕ)
+  declared [] t at x = ok t at x
+  declared (c ∷ cs) t at x = and_then (section_of s (class_of c) t at x) (λ u e y. declared cs u e y)
 
-  abbrev after : Outcome State (List ℕ) → Outcome State (List ℕ)
-  after o = and_then o (λ u e y. sections_of s (4 - (c + 1)) (c + 1) u e y)
+  pub all_declared : (at : ℕ) (x : State) → declared (Constants ∷ In ∷ Out ∷ Var ∷ []) [] at x ≡ declarations_of s at x
+  unfolding declared declarations_of sections_of
+  all_declared at x = refl
 
-  one-section : c < 4 → sections_of s (4 - c) c t at x ≡ after (section_of s c t at x)
-  unfolding sections_of
-  one-section h = ap (λ (n : ℕ). sections_of s n c t at x) (one_left h)
+  module _ (l : List Section) (i : ℕ) (t : List ℕ) (at : ℕ) (x : State) where
+    declared-next : (c : Section) → i < length l → declared (drop i l) t at x
+        ≡ and_then (section_of s (class_of (get_or l i c)) t at x) (λ u e y. declared (drop (i + 1) l) u e y)
+    unfolding declared
+    declared-next c h = rw (drop-cons l i c) (simp add-one)
 
-  pub sections_more : (m : Made) (room : List ℕ) → c < 4 → (m.mode ≡ 0 → ⊥) → seen_made m room ≡ section_of s c t at x
-      → sections_of s (4 - (c + 1)) (c + 1) (held m.table) m.next.at (room, m.count) ≡ sections_of s (4 - c) c t at x
-  sections_more m room h n e = ap after (sym (made_ok s m room n) ∙ e) ∙ sym (one-section h)
+    pub declared_more : (c : Section) → i < length l → (u : List ℕ) (e : ℕ) (y : State) → ok u e y ≡ section_of s (class_of (get_or l i c)) t at x
+        → declared (drop i l) t at x ≡ declared (drop (i + 1) l) u e y
+    declared_more c h u e y q = declared-next c h ∙ ap (λ (o : Outcome State (List ℕ)). and_then o (λ u e y. declared (drop (i + 1) l) u e y)) (sym q)
 
-  pub sections_stop : (m : Made) (room : List ℕ) → c < 4 → m.mode ≡ 0 → seen_made m room ≡ section_of s c t at x → seen_made m room ≡ sections_of s (4 - c) c t at x
-  sections_stop m room h n e = made_no s m room n ∙ ap after (sym (made_no s m room n) ∙ e) ∙ sym (one-section h)
+    pub declared_stop : (c : Section) → i < length l → (n q : ℕ) (y : State) → no n q y ≡ section_of s (class_of (get_or l i c)) t at x
+        → declared (drop i l) t at x ≡ no n q y
+    declared_stop c h n q y r = declared-next c h ∙ ap (λ (o : Outcome State (List ℕ)). and_then o (λ u e y. declared (drop (i + 1) l) u e y)) (sym r)
 
-  pub sections_done : 4 ≤ c → ok t at x ≡ sections_of s (4 - c) c t at x
-  unfolding sections_of
-  sections_done h = let e : 0 ≡ 4 - c = omega arith in ap (λ (n : ℕ). sections_of s n c t at x) e
+    pub declared_end : length l ≤ i → declared (drop i l) t at x ≡ ok t at x
+    unfolding declared
+    declared_end h = rw (drop_of_length-le l h) refl

@@ -1,7 +1,7 @@
 -- Declarations, judged where they stand in a text that is of the grammar. Document 01, 'The language we take' and 'Refusal numbers', order (3): in text
 -- order, in one list the names, then the length, then the count of signals; decisions 17, 18. The state is what the memory of the circuit holds and
 -- the count of tree nodes; the names that stand there are handed on.
-use Rattle.std.specs.Prelude.{ℕ, zero, suc, ◌+◌, ◌-◌, List, [], length, get_or, set, eqb, leb, ℤ, pos, negsuc}
+use Rattle.std.specs.Prelude.{ℕ, zero, suc, ◌+◌, ◌-◌, List, [], length, get_or, set, eqb, leb, Result, Ok, Err, ℤ, pos, negsuc}
 use Rattle.basics.specs.Choice.{pick}
 use Rattle.words.specs.Words.{next_word}
 use Rattle.names.specs.Names.{looked_up, extended, held}
@@ -13,14 +13,23 @@ use Rattle.readers.specs.Readers.{expression_of}
 use Rattle.parts.specs.Parts.{elements_at, constants_at, allows, one_more, declared_from}
 use Rattle.simple.specs.Statements.{upward}
 use Rattle.lists.specs.Lists.{is_known, fresh_of, type_of}
+use Rattle.basics.specs.Refusal.{number_of}
+use Rattle.basics.specs.declared.refusal.Refusal.{Refusal}
 use Rattle.declare.specs.declared.Made.{Made}
+use Rattle.declare.specs.declared.Section.{Section}
+use Rattle.declare.specs.declared.Section.TheVariants.{Constants, In, Out, Var}
 
--- what the code answers, with what the memory holds then: mode 0 a refusal, 1 go on, 2 the end
-abbrev pub seen_made : Made → List ℕ → Outcome State (List ℕ)
-seen_made m room = pick (eqb m.mode 0) (no m.number m.place (room, m.count)) (ok (held m.table) m.next.at (room, m.count))
+-- the number of each section: constants 0, of signals the class 1 IN, 2 OUT, 3 VAR
+abbrev pub class_of : Section → ℕ
+class_of Constants = 0
+class_of In = 1
+class_of Out = 2
+class_of Var = 3
 
-abbrev pub seen_turn : Made → List ℕ → Turn State (List ℕ)
-seen_turn m room = pick (eqb m.mode 1) (more (held m.table) m.next.at (room, m.count)) (last (seen_made m room))
+-- what the code answers, with what the memory holds then and the count of nodes
+abbrev pub seen_made : Result Made Refusal → State → Outcome State (List ℕ)
+seen_made (Ok m) x = ok (held m.table) m.next.at x
+seen_made (Err r) x = no (number_of r.reason) r.place x
 
 -- the names with the constant from st to e in front: its value is z
 abbrev pub with_constant : List ℕ → ℕ → ℕ → ℤ → List ℕ

@@ -1,389 +1,192 @@
 // Declarations, judged where they stand in the text: names are handed on by value, elements are written into the memory that is lent.
 #![tactic(auto)]
 
-ghost use Rattle.std.specs.Prelude.{◌≡◌, ◌≤◌, ◌+◌, eqb};
-ghost use Rattle.basics.specs.Choice.{pick};
+ghost use Rattle.std.specs.Prelude.{◌≡◌, ◌+◌, ℕ};
+ghost use Rattle.words.specs.Kinds.{code, taken};
 ghost use Rattle.integers.specs.Integers.{num};
 ghost use Rattle.names.specs.Names.{held};
-ghost use Rattle.grammar.specs.Outcome.{and_then};
-ghost use Rattle.lists.specs.Lists.{type_of};
+ghost use Rattle.grammar.specs.Grammar.{turned};
 ghost use Rattle.simple.specs.Statements.{upward};
-ghost use Rattle.declare.specs.Declarations.{seen_made, seen_turn, with_constant, width_of, constant_end, constant_from, constant_of, element_name, element_turn, elements_of, list_end, signals_of, item_of, item_turn, items_of, section_of, declarations_of};
+ghost use Rattle.declare.specs.Declarations.{class_of, seen_made, with_constant, width_of, constant_from, constant_of, element_name, elements_of, list_end, signals_of, item_of, items_of, section_of, declarations_of};
 
+use basics::refusal::{Reason, Refusal};
 use integers::Num;
-use judging::Read;
-use lists::Came;
-use names::Table;
-use words::{Cursor, Taken};
+use judging::{Scope, Sort};
+use names::{Entry, Table};
+use words::{Cursor, Kind};
 
-// What was made of a part: mode 0 a refusal, 1 go on, 2 the end; with the names that stand behind it.
+// What was made of a part: the names that stand behind it, and the place past it.
 #[derive(Clone, Copy)]
 pub struct Made {
-    pub mode: u8,
-    pub number: u8,
-    pub place: usize,
-    pub count: usize,
-    pub next: Cursor,
     pub table: Table,
+    pub next: Cursor,
+}
+
+// The sections of declarations. What is not a constant is a signal, and its section's number is its class in memory.
+#[derive(Clone, Copy, Debug, PartialEq, Eq)]
+enum Section {
+    Constants = 0,
+    In = 1,
+    Out = 2,
+    Var = 3,
+}
+
+// The sections, in their order.
+const SECTIONS: [Section; 4] = [Section::Constants, Section::In, Section::Out, Section::Var];
+
+// Where the counts of elements and constants stand in memory, and their limits.
+const ELEMENTS_AT: usize = 2586;
+
+const CONSTANTS_AT: usize = 2587;
+
+const ELEMENTS: u32 = 64;
+
+const CONSTANTS: u32 = 32;
+
+impl Section {
+    // The word that a section begins with.
+    fn word(self) -> Kind
+        ensures { code result ≡ 208 + class_of self }
+    {
+        match self {
+            Section::Constants => Kind::Const,
+            Section::In => Kind::In,
+            Section::Out => Kind::Out,
+            Section::Var => Kind::Var,
+        }
+    }
 }
 
 // The names with a constant in front.
 fn with_constant(names: &[u16], start: usize, end: usize, value: Num) -> Table
-    ensures { (result.top ≤ 640) × (held result ≡ with_constant names.now start end (num value)) }
+    ensures { held result ≡ with_constant names.now start end (num value) }
 {
-    match value {
-        Num::Up(m) => names::extend(names, start, basics::span(start, end), 1, m, 0),
-        Num::Down(m) => names::extend(names, start, basics::span(start, end), 1, m, 1),
-    }
-}
-
-// Behind the value of a constant.
-fn end_constant(
-    text: &[u8],
-    names: &[u16],
-    room: &mut [u32],
-    count: usize,
-    start: usize,
-    end: usize,
-    value: Num,
-    from: Cursor,
-) -> Made
-    ensures { (seen_made result room.new ≡ constant_end text.now names.now start end (num value) from.at (room.old, count)) × (result.table.top ≤ 640) }
-{
-    match from.next(text) {
-        Taken::Word {
-            kind,
-            start: p,
-            value: _,
-            next,
-        } => {
-            if kind == 59 {
-                let table = with_constant(names, start, end, value);
-                return Made {
-                    mode: 1,
-                    number: 0,
-                    place: 0,
-                    count,
-                    next,
-                    table,
-                };
-            }
-            let table = names::none();
-            Made {
-                mode: 0,
-                number: 2,
-                place: p,
-                count,
-                next,
-                table,
-            }
-        }
-        Taken::Refused { number, place } => {
-            let table = names::none();
-            Made {
-                mode: 0,
-                number,
-                place,
-                count,
-                next: from,
-                table,
-            }
-        }
-    }
+    let (value, size) = match value {
+        Num::Up(m) => (m, 0),
+        Num::Down(m) => (m, 1),
+    };
+    let kind = names::CONSTANT;
+    Table::extend(
+        names,
+        start,
+        basics::span(start, end),
+        Entry { kind, value, size },
+    )
 }
 
 // Behind the name of a constant.
+#[tactic(auto, using(std::proofs::lemmas::Grind::common_steps), unfolding(crate::specs::Declarations::constant_from, crate::specs::Declarations::constant_end))]
 fn value_constant(
-    text: &[u8],
-    names: &[u16],
+    scope: Scope,
     room: &mut [u32],
-    count: usize,
+    count: &mut usize,
     start: usize,
     end: Cursor,
-) -> Made
-    ensures { (seen_made result room.new ≡ constant_from text.now names.now start end.at (room.old, count)) × (result.table.top ≤ 640) }
+) -> Result<Made, Refusal>
+    ensures { seen_made result (room.new, count.new) ≡ constant_from scope.entry.text.now scope.entry.names.now start end.at (room.old, count.old) }
 {
-    match end.next(text) {
-        Taken::Word {
-            kind,
-            start: p,
-            value: _,
-            next,
-        } => {
-            if kind == 189 {
-                return match readers::expression(text, names, room, count, 1, next, 32) {
-                    Read::Value {
-                        value,
-                        count: c,
-                        next: past,
-                    } => end_constant(text, names, room, c, start, end.at, value, past),
-                    Read::Refused {
-                        number,
-                        place,
-                        count: c,
-                    } => {
-                        let table = names::none();
-                        Made {
-                            mode: 0,
-                            number,
-                            place,
-                            count: c,
-                            next,
-                            table,
-                        }
-                    }
-                };
-            }
-            let table = names::none();
-            Made {
-                mode: 0,
-                number: 2,
-                place: p,
-                count,
-                next,
-                table,
-            }
-        }
-        Taken::Refused { number, place } => {
-            let table = names::none();
-            Made {
-                mode: 0,
-                number,
-                place,
-                count,
-                next: end,
-                table,
-            }
-        }
+    let becomes = end.next(scope.text)?;
+    if becomes.kind != Kind::Becomes {
+        return Err(Refusal::new(Reason::Grammar, becomes.start));
     }
+    let depth = grammar::level_limit();
+    let read = readers::expression(scope, room, count, Sort::Number, becomes.next, depth)?;
+    let semicolon = read.next.next(scope.text)?;
+    if semicolon.kind != Kind::Semicolon {
+        return Err(Refusal::new(Reason::Grammar, semicolon.start));
+    }
+    Ok(Made {
+        table: with_constant(scope.names, start, end.at, read.value),
+        next: semicolon.next,
+    })
 }
 
 // A constant.
+#[tactic(auto, using(std::proofs::lemmas::Grind::common_steps, parts::proofs::Runs::none_more), unfolding(crate::specs::Declarations::constant_of))]
 fn constant(
-    text: &[u8],
-    names: &[u16],
+    scope: Scope,
     room: &mut [u32],
-    count: usize,
+    count: &mut usize,
     start: usize,
     end: Cursor,
-) -> Made
-    ensures { (seen_made result room.new ≡ constant_of text.now names.now start end.at (room.old, count)) × (result.table.top ≤ 640) }
+) -> Result<Made, Refusal>
+    ensures { seen_made result (room.new, count.new) ≡ constant_of scope.entry.text.now scope.entry.names.now start end.at (room.old, count.old) }
 {
-    if lists::is_known(text, names, start, end.at) {
-        let table = names::none();
-        return Made {
-            mode: 0,
-            number: 4,
-            place: start,
-            count,
-            next: end,
-            table,
-        };
+    if lists::is_known(scope, start, end.at) {
+        return Err(Refusal::new(Reason::Name, start));
     }
-    if parts::one_more(room, 2587, 32) {
-        return value_constant(text, names, room, count, start, end);
+    if !parts::one_more(room, CONSTANTS_AT, CONSTANTS) {
+        return Err(Refusal::new(Reason::Limit, start));
     }
-    let table = names::none();
-    Made {
-        mode: 0,
-        number: 6,
-        place: start,
-        count,
-        next: end,
-        table,
-    }
+    value_constant(scope, room, count, start, end)
 }
 
 // How many elements a name has.
-fn width(n: u16) -> u32
-    ensures { result ≡ width_of n }
+fn width(length: u16) -> u32
+    ensures { result ≡ width_of length }
 {
-    if n == 0 { 1 } else { n as u32 }
+    u32::from(length.max(1))
 }
 
 // The elements of a name.
+#[tactic(auto, using(std::proofs::lemmas::Grind::common_steps), unfolding(crate::specs::Declarations::element_name))]
 fn element_name(
     names: &[u16],
     room: &mut [u32],
-    count: usize,
-    class: u32,
-    n: u16,
+    section: Section,
+    length: u16,
     start: usize,
     end: Cursor,
-) -> Made
-    ensures { (seen_turn result room.new ≡ element_name class n names.now start end.at (room.old, count)) × (result.table.top ≤ 640) }
+) -> Result<Made, Refusal>
+    ensures { (k : ℕ) → turned (seen_made result (room.new, k)) ≡ element_name (class_of section) length names.now start end.at (room.old, k) }
 {
-    let m = parts::tell(&room[..], 2586);
-    let w = width(n);
-    if m as u64 + w as u64 <= 64 {
-        parts::declare_from(room, class, start, m, w);
-        parts::put(room, 2586, m + w);
-        let table = names::extend(names, start, basics::span(start, end.at), 2, m as u16, n);
-        return Made {
-            mode: 1,
-            number: 0,
-            place: 0,
-            count,
-            next: end,
-            table,
-        };
+    let first = parts::tell(room, ELEMENTS_AT);
+    let n = width(length);
+    if u64::from(first) + u64::from(n) > u64::from(ELEMENTS) {
+        return Err(Refusal::new(Reason::Limit, start));
     }
-    let table = names::none();
-    Made {
-        mode: 0,
-        number: 6,
-        place: start,
-        count,
+    parts::declare_from(room, section as u32, start, first, n);
+    parts::put(room, ELEMENTS_AT, first + n);
+    let entry = Entry {
+        kind: names::SIGNAL,
+        value: first as u16,
+        size: length,
+    };
+    Ok(Made {
+        table: Table::extend(names, start, basics::span(start, end.at), entry),
         next: end,
-        table,
-    }
-}
-
-// One word of a list: a name gets its elements.
-fn element_turn(
-    text: &[u8],
-    table: Table,
-    room: &mut [u32],
-    count: usize,
-    class: u32,
-    n: u16,
-    from: Cursor,
-) -> Made
-    requires { table.top ≤ 640 }
-    ensures { (seen_turn result room.new ≡ element_turn text.now class n (held table) from.at (room.old, count)) × (result.table.top ≤ 640) }
-{
-    match from.next(text) {
-        Taken::Word {
-            kind,
-            start,
-            value: _,
-            next,
-        } => {
-            if kind == 1 {
-                let top = table.top;
-                let words = table.words;
-                return element_name(&words[top..], room, count, class, n, start, next);
-            }
-            if kind == 44 {
-                return Made {
-                    mode: 1,
-                    number: 0,
-                    place: 0,
-                    count,
-                    next,
-                    table,
-                };
-            }
-            Made {
-                mode: 2,
-                number: 0,
-                place: 0,
-                count,
-                next: from,
-                table,
-            }
-        }
-        Taken::Refused { number, place } => Made {
-            mode: 0,
-            number,
-            place,
-            count,
-            next: from,
-            table,
-        },
-    }
+    })
 }
 
 // The elements of a list's names.
+#[tactic(auto, using(std::proofs::lemmas::Grind::common_steps, crate::proofs::Laws::name_more, crate::proofs::Laws::name_falls, crate::proofs::Laws::name_last, crate::proofs::Laws::comma_more, crate::proofs::Laws::comma_falls, crate::proofs::Laws::names_end, crate::proofs::Laws::names_none), unfolding(crate::specs::Declarations::elements_of))]
 fn elements(
     text: &[u8],
-    table: Table,
     room: &mut [u32],
-    count: usize,
-    class: u32,
-    n: u16,
-    from: Cursor,
-) -> Made
-    requires { table.top ≤ 640 }
-    ensures { (seen_made result room.new ≡ elements_of text.now class n (held table) from.at (room.old, count)) × (result.table.top ≤ 640) }
+    section: Section,
+    length: u16,
+    from: Made,
+) -> Result<Made, Refusal>
+    ensures { (k : ℕ) → seen_made result (room.new, k) ≡ elements_of text.now (class_of section) length (held from.table) from.next.at (room.old, k) }
 {
-    let mut names = table;
-    let mut at = from.at;
-    let mut k = count;
+    let mut made = from;
     loop {
-        let made = element_turn(text, names, room, k, class, n, Cursor { at });
-        if made.mode == 1 {
-            let t = made.table;
-            names = t;
-            at = made.next.at;
-            k = made.count;
-        } else {
-            return made;
-        }
-    }
-}
-
-// Behind the type of a list.
-fn end_list(
-    text: &[u8],
-    table: Table,
-    room: &mut [u32],
-    count: usize,
-    class: u32,
-    start: usize,
-    length: Num,
-    from: Cursor,
-) -> Made
-    requires { table.top ≤ 640 }
-    ensures { (seen_made result room.new ≡ list_end text.now class (held table) start (num length) from.at (room.old, count)) × (result.table.top ≤ 640) }
-{
-    match from.next(text) {
-        Taken::Word {
-            kind,
-            start: p,
-            value: _,
-            next,
-        } => {
-            if kind == 59 {
-                let made = elements(
-                    text,
-                    table,
-                    room,
-                    count,
-                    class,
-                    up(length),
-                    Cursor { at: start },
-                );
-                if made.mode == 0 {
-                    return made;
-                }
-                let t = made.table;
-                return Made {
-                    mode: 1,
-                    number: 0,
-                    place: 0,
-                    count: made.count,
-                    next,
-                    table: t,
-                };
-            }
-            Made {
-                mode: 0,
-                number: 2,
-                place: p,
-                count,
-                next,
-                table,
-            }
-        }
-        Taken::Refused { number, place } => Made {
-            mode: 0,
-            number,
-            place,
-            count,
-            next: from,
-            table,
-        },
+        let word = made.next.next(text)?;
+        made = match word.kind {
+            Kind::Name => element_name(
+                made.table.lent(),
+                room,
+                section,
+                length,
+                word.start,
+                word.next,
+            )?,
+            Kind::Comma => Made {
+                next: word.next,
+                ..made
+            },
+            _ => return Ok(made),
+        };
     }
 }
 
@@ -397,241 +200,136 @@ fn up(v: Num) -> u16
     }
 }
 
-// The type of a list, and what is behind it.
-fn type_list(
+// Behind the type of a list, which begins where the names stand.
+#[tactic(auto, using(std::proofs::lemmas::Grind::common_steps), unfolding(crate::specs::Declarations::list_end))]
+fn end_list(
     text: &[u8],
-    table: Table,
     room: &mut [u32],
-    count: usize,
-    class: u32,
-    start: usize,
+    section: Section,
+    list: Made,
+    length: Num,
     from: Cursor,
-) -> Made
-    requires { table.top ≤ 640 }
-    ensures { (seen_made result room.new ≡ and_then (type_of text.now (held table) from.at (room.old, count)) (list_end text.now class (held table) start)) × (result.table.top ≤ 640) }
+) -> Result<Made, Refusal>
+    ensures { (k : ℕ) → seen_made result (room.new, k) ≡ list_end text.now (class_of section) (held list.table) list.next.at (num length) from.at (room.old, k) }
 {
-    let top = table.top;
-    let words = table.words;
-    match lists::read_type(text, &words[top..], room, count, from) {
-        Read::Value {
-            value,
-            count: c,
-            next,
-        } => end_list(text, table, room, c, class, start, value, next),
-        Read::Refused {
-            number,
-            place,
-            count: c,
-        } => Made {
-            mode: 0,
-            number,
-            place,
-            count: c,
-            next: from,
-            table,
-        },
+    let semicolon = from.next(text)?;
+    if semicolon.kind != Kind::Semicolon {
+        return Err(Refusal::new(Reason::Grammar, semicolon.start));
     }
+    let made = elements(text, room, section, up(length), list)?;
+    Ok(Made {
+        next: semicolon.next,
+        ..made
+    })
 }
 
-// A list of signals of a class.
+// A list of signals, which begins where the names stand.
+#[tactic(auto, using(std::proofs::lemmas::Grind::common_steps), unfolding(crate::specs::Declarations::signals_of))]
 fn signals(
     text: &[u8],
-    table: Table,
     room: &mut [u32],
-    count: usize,
-    class: u32,
-    start: usize,
-) -> Made
-    requires { table.top ≤ 640 }
-    ensures { (seen_made result room.new ≡ signals_of text.now class (held table) start (room.old, count)) × (result.table.top ≤ 640) }
+    count: &mut usize,
+    section: Section,
+    list: Made,
+) -> Result<Made, Refusal>
+    ensures { seen_made result (room.new, count.new) ≡ signals_of text.now (class_of section) (held list.table) list.next.at (room.old, count.old) }
 {
-    let top = table.top;
-    let words = table.words;
-    match lists::fresh(text, &words[top..], start) {
-        Came::Past { value: _, next } => type_list(text, table, room, count, class, start, next),
-        Came::Twice { number, place } => Made {
-            mode: 0,
-            number,
-            place,
-            count,
-            next: Cursor { at: start },
-            table,
-        },
-    }
+    let scope = Scope {
+        text,
+        names: list.table.lent(),
+    };
+    let colon = lists::fresh(scope, list.next)?;
+    let length = lists::read_type(scope, room, count, colon)?;
+    end_list(text, room, section, list, length.value, length.next)
 }
 
-// A declaration of a class.
+// A declaration of a section, whose first name is from start to end.
+#[tactic(auto, using(std::proofs::lemmas::Grind::common_steps), unfolding(crate::specs::Declarations::item_of))]
 fn item(
     text: &[u8],
-    table: Table,
     room: &mut [u32],
-    count: usize,
-    class: u32,
-    from: Cursor,
+    count: &mut usize,
+    section: Section,
+    from: Made,
     start: usize,
     end: Cursor,
-) -> Made
-    requires { table.top ≤ 640 }
-    ensures { (seen_made result room.new ≡ item_of text.now class (held table) from.at start end.at (room.old, count)) × (result.table.top ≤ 640) }
+) -> Result<Made, Refusal>
+    ensures { seen_made result (room.new, count.new) ≡ item_of text.now (class_of section) (held from.table) from.next.at start end.at (room.old, count.old) }
 {
-    if class == 0 {
-        let top = table.top;
-        let words = table.words;
-        return constant(text, &words[top..], room, count, start, end);
-    }
-    signals(text, table, room, count, class, from.at)
-}
-
-// One declaration of a section, or its end.
-fn item_turn(
-    text: &[u8],
-    table: Table,
-    room: &mut [u32],
-    count: usize,
-    class: u32,
-    from: Cursor,
-) -> Made
-    requires { table.top ≤ 640 }
-    ensures { (seen_turn result room.new ≡ item_turn text.now class (held table) from.at (room.old, count)) × (result.table.top ≤ 640) }
-{
-    match from.next(text) {
-        Taken::Word {
-            kind,
-            start,
-            value: _,
-            next,
-        } => {
-            if kind == 1 {
-                let made = item(text, table, room, count, class, from, start, next);
-                if made.mode == 0 {
-                    return made;
-                }
-                let t = made.table;
-                let past = made.next;
-                return Made {
-                    mode: 1,
-                    number: 0,
-                    place: 0,
-                    count: made.count,
-                    next: past,
-                    table: t,
-                };
-            }
-            Made {
-                mode: 2,
-                number: 0,
-                place: 0,
-                count,
-                next: from,
-                table,
-            }
-        }
-        Taken::Refused { number, place } => Made {
-            mode: 0,
-            number,
-            place,
+    match section {
+        Section::Constants => constant(
+            Scope {
+                text,
+                names: from.table.lent(),
+            },
+            room,
             count,
-            next: from,
-            table,
-        },
+            start,
+            end,
+        ),
+        _ => signals(text, room, count, section, from),
     }
 }
 
 // The declarations of a section, behind its word.
+#[tactic(auto, using(std::proofs::lemmas::Grind::common_steps, crate::proofs::Laws::item_more, crate::proofs::Laws::item_falls, crate::proofs::Laws::item_last, crate::proofs::Laws::items_end, crate::proofs::Laws::items_none), unfolding(crate::specs::Declarations::items_of))]
 fn items(
     text: &[u8],
-    table: Table,
     room: &mut [u32],
-    count: usize,
-    class: u32,
-    from: Cursor,
-) -> Made
-    requires { table.top ≤ 640 }
-    ensures { (seen_made result room.new ≡ items_of text.now class (held table) from.at (room.old, count)) × (result.table.top ≤ 640) }
+    count: &mut usize,
+    section: Section,
+    from: Made,
+) -> Result<Made, Refusal>
+    ensures { seen_made result (room.new, count.new) ≡ items_of text.now (class_of section) (held from.table) from.next.at (room.old, count.old) }
 {
-    let mut names = table;
-    let mut at = from.at;
-    let mut k = count;
+    let mut made = from;
     loop {
-        let made = item_turn(text, names, room, k, class, Cursor { at });
-        if made.mode == 1 {
-            let t = made.table;
-            names = t;
-            at = made.next.at;
-            k = made.count;
-        } else {
-            return made;
+        let word = made.next.next(text)?;
+        if word.kind != Kind::Name {
+            return Ok(made);
         }
+        made = item(text, room, count, section, made, word.start, word.next)?;
     }
 }
 
-// The section of a class, or nothing.
-fn section(
+// A section, or nothing.
+#[tactic(auto, using(std::proofs::lemmas::Grind::common_steps, words::proofs::Codes::code_one, words::proofs::Codes::code_other), unfolding(crate::specs::Declarations::section_of))]
+fn section_at(
     text: &[u8],
-    table: Table,
     room: &mut [u32],
-    count: usize,
-    class: u32,
-    from: Cursor,
-) -> Made
-    requires { table.top ≤ 640 }
-    ensures { (seen_made result room.new ≡ section_of text.now class (held table) from.at (room.old, count)) × (result.table.top ≤ 640) }
+    count: &mut usize,
+    section: Section,
+    from: Made,
+) -> Result<Made, Refusal>
+    ensures { seen_made result (room.new, count.new) ≡ section_of text.now (class_of section) (held from.table) from.next.at (room.old, count.old) }
 {
-    match from.next(text) {
-        Taken::Word {
-            kind,
-            start: _,
-            value: _,
-            next,
-        } => {
-            if kind as u64 == 208 + class as u64 {
-                return items(text, table, room, count, class, next);
-            }
-            Made {
-                mode: 2,
-                number: 0,
-                place: 0,
-                count,
-                next: from,
-                table,
-            }
-        }
-        Taken::Refused { number, place } => Made {
-            mode: 0,
-            number,
-            place,
-            count,
-            next: from,
-            table,
-        },
+    let word = from.next.next(text)?;
+    if word.kind != section.word() {
+        return Ok(from);
     }
+    let made = Made {
+        next: word.next,
+        ..from
+    };
+    items(text, room, count, section, made)
 }
 
 // The declarations of a module, behind its heading.
-pub fn declare(text: &[u8], room: &mut [u32], count: usize, from: Cursor) -> Made
-    ensures { (seen_made result room.new ≡ declarations_of text.now from.at (room.old, count)) × (result.table.top ≤ 640) }
+#[tactic(auto, using(std::proofs::lemmas::Grind::common_steps, crate::proofs::Laws::all_declared, crate::proofs::Laws::declared_more, crate::proofs::Laws::declared_stop, crate::proofs::Laws::declared_end))]
+pub fn declare(
+    text: &[u8],
+    parts: &mut [u32],
+    count: &mut usize,
+    from: Cursor,
+) -> Result<Made, Refusal>
+    ensures { seen_made result (parts.new, count.new) ≡ declarations_of text.now from.at (parts.old, count.old) }
 {
-    let mut names = names::none();
-    let mut at = from.at;
-    let mut k = count;
-    let mut class: u32 = 0;
-    while class < 4 {
-        let made = section(text, names, room, k, class, Cursor { at });
-        if made.mode == 0 {
-            return made;
-        }
-        let t = made.table;
-        names = t;
-        at = made.next.at;
-        k = made.count;
-        class += 1;
+    let mut made = Made {
+        table: Table::none(),
+        next: from,
+    };
+    for section in SECTIONS {
+        made = section_at(text, parts, count, section, made)?;
     }
-    Made {
-        mode: 2,
-        number: 0,
-        place: 0,
-        count: k,
-        next: Cursor { at },
-        table: names,
-    }
+    Ok(made)
 }

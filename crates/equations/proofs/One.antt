@@ -1,7 +1,6 @@
 -- No second answer fits a reader's promise: what is seen of an answer says the answer, and what the lent room holds.
 -- Assumes nothing.
-use mathlib.Core.Path.{◌≡◌, sym, ap, ap₂, ◌∙◌}
-use mathlib.Core.List.{List}
+use mathlib.Core.Path.{◌≡◌, sym, ap, ap₂}
 use Prim.Native.Nat.{ℕ}
 use native.Mathlib.Omega.{arith}
 use lib.IntN.{ℤ, pos, negsuc}
@@ -12,7 +11,11 @@ use Rattle.integers.specs.declared.Num.TheVariants.{Up, Down}
 use Rattle.grammar.specs.Outcome.{ok, no}
 use Rattle.judging.specs.Reading.{State, seen}
 use Rattle.judging.specs.declared.Read.{Read}
-use Rattle.judging.specs.declared.Read.TheVariants.{Value, Refused}
+use Rattle.std.specs.Prelude.{Result, Ok, Err}
+use Rattle.basics.specs.Refusal.{number_of}
+use Rattle.basics.specs.declared.refusal.Reason.{Reason}
+use Rattle.basics.specs.declared.refusal.Refusal.{Refusal}
+use Rattle.basics.proofs.Refusals.{number_of_once}
 
 same_cursor : (c d : Cursor) → c.at ≡ d.at → c ≡ d
 same_cursor c d p = λ i. record { at = p i }
@@ -29,20 +32,16 @@ num_one (Down m) (Down n) q = let e : m ≡ n = cc in ap Down e
 apart : (v : ℤ) (a n p : ℕ) (x y : State) → ok v a x ≡ no n p y → ⊥
 apart v a n p x y q = let z : ◌≡◌ {A = ℕ} 0 1 = cc in omega arith
 
-pub seen_one : (a b : Read) (l m : List ℕ) → seen a l ≡ seen b m → (a ≡ b) × (l ≡ m)
-seen_one (Value v n c) (Value w k d) l m q =
-    let p : num v ≡ num w = cc in
-    let r : c.at ≡ d.at = cc in
-    let x : ◌≡◌ {A = State} (l, n) (m, k) = cc in
-    let e : n ≡ k = ap (λ (y : State). y.1) x in
-    let f : l ≡ m = ap (λ (y : State). y.0) x in
-    (ap₂ (λ (u : Num) (o : Cursor). Value u n o) (num_one v w p) (same_cursor c d r) ∙ ap (λ (i : ℕ). Value w i d) e, f)
-seen_one (Value v n c) (Refused k p j) l m q = absurd (apart (num v) c.at k p (l, n) (m, j) q)
-seen_one (Refused k p j) (Value v n c) l m q = absurd (apart (num v) c.at k p (m, n) (l, j) (sym q))
-seen_one (Refused k p j) (Refused h r i) l m q =
-    let e : k ≡ h = cc in
-    let f : p ≡ r = cc in
-    let x : ◌≡◌ {A = State} (l, j) (m, i) = cc in
-    let g : j ≡ i = ap (λ (y : State). y.1) x in
-    let o : l ≡ m = ap (λ (y : State). y.0) x in
-    (ap₂ (λ (u v : ℕ). Refused u v j) e f ∙ ap (λ (v : ℕ). Refused h r v) g, o)
+pub seen_one : (a b : Result Read Refusal) (x y : State) → seen a x ≡ seen b y → (a ≡ b) × (x ≡ y)
+seen_one (Ok a) (Ok b) x y q =
+    let p : num a.value ≡ num b.value = cc in
+    let r : a.next.at ≡ b.next.at = cc in
+    let e : x ≡ y = cc in
+    (ap₂ (λ (u : Num) (o : Cursor). Ok (record { value = u; next = o })) (num_one a.value b.value p) (same_cursor a.next b.next r), e)
+seen_one (Ok a) (Err r) x y q = absurd (apart (num a.value) a.next.at (number_of r.reason) r.place x y q)
+seen_one (Err r) (Ok a) x y q = absurd (apart (num a.value) a.next.at (number_of r.reason) r.place y x (sym q))
+seen_one (Err r) (Err t) x y q =
+    let e : number_of r.reason ≡ number_of t.reason = cc in
+    let p : r.place ≡ t.place = cc in
+    let f : x ≡ y = cc in
+    (ap₂ (λ (m : Reason) (n : ℕ). Err (record { reason = m; place = n })) (number_of_once r.reason t.reason e) p, f)

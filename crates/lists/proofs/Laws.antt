@@ -1,18 +1,36 @@
 -- A walk along a list goes forward, so it is its first word and then the rest of it.
 -- Assumes nothing.
-use mathlib.Core.Path.{◌≡◌}
+use mathlib.Core.Path.{◌≡◌, refl, sym, ap, subst}
+use mathlib.Core.Bool.{true, false}
 use mathlib.Core.List.{List}
 use Prim.Native.Nat.{ℕ, suc, ◌-◌, ◌<◌, ◌≤◌}
 use native.Mathlib.Omega.{arith}
 use lib.ListN.{length}
 use lib.Dec.{eqb, leb}
-use borrow.Author.Tests.{eqb-false}
+use borrow.Author.Tests.{eqb-false, le-leb, lt-leb}
+use denote.Enum.Bare.{sameb, same_true, same_false}
+use Rattle.words.specs.contracts.Kind.{the_type}
+use Rattle.words.specs.Kinds.{code}
+use Rattle.words.specs.declared.Kind.{Kind}
+use Rattle.words.specs.declared.Kind.TheVariants.{TextEnd}
+use Rattle.words.proofs.Codes.{code_other}
+use Rattle.words.specs.declared.Cursor.{Cursor}
+use Rattle.words.specs.Taken.{Word, Refused}
+use Rattle.words.specs.Words.{next_word}
+use Rattle.words.proofs.Forward.{Forward, next_forward}
 use Rattle.names.specs.Names.{looked_up, spelling, same}
 use Rattle.grammar.specs.Outcome.{Outcome, ok, no, more, last}
 use Rattle.grammar.specs.Modules.{repeat}
 use Rattle.grammar.proofs.Chain.{Near, PastT, other}
 use Rattle.grammar.proofs.Turns.{turn_pick, turn_word, repeat_more, repeat_last, repeat_falls, near_repeat}
 use Rattle.lists.specs.Lists.{is_known, back_turn, back_of, is_back, fresh_name, fresh_turn, fresh_of}
+
+-- whether a word is the text's end
+pub is_end : (k : Kind) → sameb the_type k TextEnd ≡ true → eqb (code k) 0 ≡ true
+is_end k e = ap (λ (k : Kind). eqb (code k) 0) (same_true the_type tt k TextEnd e)
+
+pub no_end : (k : Kind) → sameb the_type k TextEnd ≡ false → eqb (code k) 0 ≡ false
+no_end k e = code_other k TextEnd (same_false the_type k TextEnd e)
 
 module _ (s : List ℕ) (st e : ℕ) where
   back-far : (v at : ℕ) (x : Unit {0}) → PastT (length s) at (back_turn s st e v at x)
@@ -37,6 +55,29 @@ module _ (s : List ℕ) (st e : ℕ) where
 
   pub back_falls : (at n : ℕ) → back_turn s st e 0 at tt ≡ more 0 n tt → length s - n < length s - at
   back_falls at n q = repeat_falls s (back_turn s st e) back-far 0 0 at n tt tt q
+
+  -- by the next word: the walk stops where no word is before the name, and finds the name where the word has its spelling
+  module _ (at k q v : ℕ) (c : Cursor) (w : Word k q v c ≡ next_word s at) where
+    pub back_ended : eqb k 0 ≡ true → is_back (back at) ≡ false
+    back_ended x = ap is_back (back_last at (no 2 q tt) (unfold back_turn in rw (← w, x) refl))
+
+    pub back_ahead : eqb k 0 ≡ false → st ≤ q → is_back (back at) ≡ false
+    back_ahead x y = ap is_back (back_last at (ok 0 c.at tt) (unfold back_turn in rw (← w, x, le-leb _ _ y) refl))
+
+    pub back_found : eqb k 0 ≡ false → q < st → same (spelling s q (c.at - q)) (spelling s st (e - st)) ≡ true → is_back (back at) ≡ true
+    back_found x y z = ap is_back (back_last at (ok 1 c.at tt) (unfold back_turn in rw (← w, x, lt-leb _ _ y, z) refl))
+
+    pub back_past : eqb k 0 ≡ false → q < st → same (spelling s q (c.at - q)) (spelling s st (e - st)) ≡ false → is_back (back at) ≡ is_back (back c.at)
+    back_past x y z = ap is_back (back_more at c.at (unfold back_turn in rw (← w, x, lt-leb _ _ y, z) refl))
+
+    pub word_falls : eqb k 0 ≡ false → length s - c.at < length s - at
+    word_falls x =
+        let f : Forward (length s) at (Word k q v c) = subst (Forward (length s) at) (sym w) (next_forward s at) in
+        let h : (at < c.at) × (at < length s) = f (eqb-false k 0 x) in
+        omega arith
+
+  pub back_none : (at n p : ℕ) → Refused n p ≡ next_word s at → is_back (back at) ≡ false
+  back_none at n p w = ap is_back (back_last at (no n p tt) (unfold back_turn in rw (← w) refl))
 
 module _ (s t : List ℕ) (first : ℕ) where
   name-far : (at st nx : ℕ) → at < nx → at < length s → PastT (length s) at (fresh_name s t first st nx)

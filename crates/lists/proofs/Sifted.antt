@@ -3,7 +3,7 @@
 use mathlib.Core.Path.{◌≡◌, refl, sym, ap, ap₂, subst, ◌∙◌}
 use mathlib.Core.Bool.{Bool, true, false, ◌&&◌, ◌||◌}
 use mathlib.Core.List.{List, [], ◌∷◌}
-use Prim.Native.Nat.{ℕ, zero, suc, ◌+◌, ◌-◌, ◌*◌, ◌^◌, ◌<◌, ◌≤◌}
+use Prim.Native.Nat.{ℕ, min, zero, suc, ◌+◌, ◌-◌, ◌*◌, ◌<◌, ◌≤◌}
 use native.Mathlib.Omega.{arith}
 use lib.ListN.{length, get_or, take, drop, set, length-set, length-take, get_or-eq_default}
 use lib.Seq.{get_or-set_same, get_or-set_other, get_or-take, get_or-drop}
@@ -169,45 +169,23 @@ module _ (s l : List ℕ) (st n d i : ℕ) where
         ∙ ap (λ (k : ℕ). spot s l w k (d + 1) (2 * get_or l i 0 + 16 + branch w d)) y
         ∙ ap₂ (λ (x v : ℕ). spot s l w (128 - (d + 1)) (d + 1) (2 * x + 16 + v)) (sym q) (sym g)
 
-pub cell_past : (l : List ℕ) (i : ℕ) → length l ≤ i → 0 ≡ get_or l i 0
-cell_past l i h = sym (get_or-eq_default l 0 h)
-
 -- ---- bytes of a spelling
 
 module _ (s : List ℕ) (st n j : ℕ) where
-  pub byte_at : j < n → get_or (spelling s st n).bytes j 0 ≡ get_or s (st + j) 0
+  byte_at : j < n → get_or (spelling s st n).bytes j 0 ≡ get_or s (st + j) 0
   unfolding spelling
   byte_at h = get_or-take n (drop st s) j 0 h ∙ get_or-drop st s j 0
 
-  pub byte_past : j < n → length s ≤ st + j → get_or (spelling s st n).bytes j 0 ≡ 0
-  byte_past h o = byte_at h ∙ get_or-eq_default s 0 o
+  pub byte_from : j < n → get_or (spelling s st n).bytes j 0 ≡ get_or (drop (min st (length s)) s) j 0
+  byte_from h = byte_at h ∙ sym (get_or-drop (min st (length s)) s j 0 ∙ go (ltb st (length s)) refl)
+    where
+      go : (b : Bool) → ltb st (length s) ≡ b → get_or s (min st (length s) + j) 0 ≡ get_or s (st + j) 0
+      go true e = let l : st < length s = ltb-true _ _ e in ap (λ (i : ℕ). get_or s (i + j) 0) (omega arith)
+      go false e = let l : length s ≤ st = ltb-false _ _ e in get_or-eq_default s 0 (omega arith) ∙ sym (get_or-eq_default s 0 (omega arith))
 
   pub byte_behind : n ≤ j → get_or (spelling s st n).bytes j 0 ≡ 0
   unfolding spelling
   byte_behind h = get_or-eq_default (take n (drop st s)) 0 (let e = length-take n (drop st s) in omega arith)
-
--- the weights of a byte's bits
-pub weights_are : (i : ℕ) → i < 8 → get_or (1 ∷ 2 ∷ 4 ∷ 8 ∷ 16 ∷ 32 ∷ 64 ∷ 128 ∷ []) i 0 ≡ 2 ^ i
-weights_are zero h = refl
-weights_are (suc zero) h = refl
-weights_are (suc (suc zero)) h = refl
-weights_are (suc (suc (suc zero))) h = refl
-weights_are (suc (suc (suc (suc zero)))) h = refl
-weights_are (suc (suc (suc (suc (suc zero))))) h = refl
-weights_are (suc (suc (suc (suc (suc (suc zero)))))) h = refl
-weights_are (suc (suc (suc (suc (suc (suc (suc zero))))))) h = refl
-weights_are (suc (suc (suc (suc (suc (suc (suc (suc i)))))))) h = absurd (omega arith)
-
-pub weights_some : (i : ℕ) → i < 8 → 0 < get_or (1 ∷ 2 ∷ 4 ∷ 8 ∷ 16 ∷ 32 ∷ 64 ∷ 128 ∷ []) i 0
-weights_some zero h = omega arith
-weights_some (suc zero) h = omega arith
-weights_some (suc (suc zero)) h = omega arith
-weights_some (suc (suc (suc zero))) h = omega arith
-weights_some (suc (suc (suc (suc zero)))) h = omega arith
-weights_some (suc (suc (suc (suc (suc zero))))) h = omega arith
-weights_some (suc (suc (suc (suc (suc (suc zero)))))) h = omega arith
-weights_some (suc (suc (suc (suc (suc (suc (suc zero))))))) h = omega arith
-weights_some (suc (suc (suc (suc (suc (suc (suc (suc i)))))))) h = absurd (omega arith)
 
 -- ---- a name that is noted
 

@@ -13,10 +13,7 @@ use Rattle.basics.specs.Text.{text}
 use Rattle.words.specs.Bytes.{turn_of, is_letter, is_digit, is_name_byte, is_single, is_pair}
 use Rattle.words.specs.Words.{gap, end_of, value_of, of_two, of_three, of_four, of_five, of_six, keyword_of, named, word, name_at, number_at, pair_kind, pair_at, logic_at, form_at, word_at, after, next_word, prefixed}
 use Rattle.words.specs.declared.Cursor.{Cursor}
-use Rattle.words.specs.declared.Gap.{Gap}
-use Rattle.words.specs.declared.Gap.TheVariants.{Here, Cut}
-use Rattle.words.specs.Taken.{Taken}
-use Rattle.words.specs.Taken.{Word, Refused}
+use Rattle.words.specs.Taken.{Taken, Word, Refused, Gap, Here, Cut}
 use Rattle.words.proofs.Laws.{left_cons, end_more}
 use Rattle.words.proofs.Forward.{end_from}
 use Rattle.names.specs.Names.{spelling, same_bytes, same}

@@ -1,6 +1,6 @@
 -- A list of signals in a text that is of the grammar: its names are new, and its type. Document 01, 'Refusal numbers', order (3): in one list the
 -- names, then the length; decision 18.
-use Rattle.std.specs.Prelude.{ℕ, suc, ◌-◌, Bool, true, false, ◌&&◌, List, length, eqb, leb, ℤ, pos, negsuc}
+use Rattle.std.specs.Prelude.{ℕ, suc, ◌-◌, Bool, true, false, ◌&&◌, List, length, eqb, leb, Result, Ok, Err, ℤ, pos, negsuc}
 use Rattle.basics.specs.Choice.{pick}
 use Rattle.words.specs.Words.{next_word}
 use Rattle.names.specs.Names.{Seen, known, unknown, looked_up, spelling, same}
@@ -9,24 +9,25 @@ use Rattle.grammar.specs.Grammar.{closed}
 use Rattle.grammar.specs.Modules.{word_turn, repeat}
 use Rattle.judging.specs.Reading.{State}
 use Rattle.readers.specs.Readers.{expression_of}
+use Rattle.basics.specs.Refusal.{number_of}
+use Rattle.basics.specs.declared.refusal.Refusal.{Refusal}
+use Rattle.words.specs.declared.Cursor.{Cursor}
 use Rattle.lists.specs.declared.Walk.{Walk}
-use Rattle.lists.specs.declared.Walk.TheVariants.{On, End, Off}
-use Rattle.lists.specs.declared.Came.{Came}
-use Rattle.lists.specs.declared.Came.TheVariants.{Past, Twice}
+use Rattle.lists.specs.declared.Walk.TheVariants.{On, End}
 
 abbrev pub is_known : Seen → Bool
 is_known (known k v n) = true
 is_known unknown = false
 
 -- what the code answers as it goes along a list
-abbrev pub seen_walk : Walk → Turn (Unit {0}) ℕ
-seen_walk (On c) = more 0 c.at tt
-seen_walk (End v c) = last (ok v c.at tt)
-seen_walk (Off n p) = last (no n p tt)
+abbrev pub seen_walk : Result Walk Refusal → Turn (Unit {0}) ℕ
+seen_walk (Ok (On c)) = more 0 c.at tt
+seen_walk (Ok (End c)) = last (ok 0 c.at tt)
+seen_walk (Err r) = last (no (number_of r.reason) r.place tt)
 
-abbrev pub seen_came : Came → Outcome (Unit {0}) ℕ
-seen_came (Past v c) = ok v c.at tt
-seen_came (Twice n p) = no n p tt
+abbrev pub seen_came : Result Cursor Refusal → Outcome (Unit {0}) ℕ
+seen_came (Ok c) = ok 0 c.at tt
+seen_came (Err r) = no (number_of r.reason) r.place tt
 
 -- whether the name from st to e stands in its list before: 1 if it does; the words of the list are looked at in turn, up to st
 unfoldable pub back_turn : List ℕ → ℕ → ℕ → ℕ → ℕ → Unit {0} → Turn (Unit {0}) ℕ

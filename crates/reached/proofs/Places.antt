@@ -11,10 +11,7 @@ use borrow.Author.Tests.{ltb-true, ltb-false}
 use Rattle.basics.specs.Choice.{pick}
 use Rattle.words.specs.Bytes.{is_letter, is_digit, is_name_byte, is_single, is_pair}
 use Rattle.words.specs.Words.{gap, end_of, value_of, keyword_of, named, word, name_at, number_at, pair_kind, pair_at, logic_at, form_at, word_at, after, next_word}
-use Rattle.words.specs.declared.Gap.{Gap}
-use Rattle.words.specs.declared.Gap.TheVariants.{Here, Cut}
-use Rattle.words.specs.Taken.{Taken}
-use Rattle.words.specs.Taken.{Word, Refused}
+use Rattle.words.specs.Taken.{Taken, Word, Refused, Gap, Here, Cut}
 
 -- a word from st to nx that says v, in a text of n bytes
 pub record Stands (n st nx v : ℕ) : Type 0 where

@@ -11,10 +11,7 @@ use lib.Dec.{eqb, ltb}
 use Rattle.basics.specs.Choice.{pick}
 use Rattle.words.specs.Bytes.{is_letter, is_digit, is_name_byte, is_single, is_pair}
 use Rattle.words.specs.Words.{gap, end_of, value_of, keyword_of, named as name-word, word, name_at, number_at, pair_kind, pair_at, logic_at, form_at, word_at, after, next_word}
-use Rattle.words.specs.declared.Gap.{Gap}
-use Rattle.words.specs.declared.Gap.TheVariants.{Here, Cut}
-use Rattle.words.specs.Taken.{Taken}
-use Rattle.words.specs.Taken.{Word, Refused}
+use Rattle.words.specs.Taken.{Taken, Word, Refused, Gap, Here, Cut}
 use Rattle.grammar.specs.Outcome.{Outcome, ok, no, Built, built, bad, Turn, more, last, on_word, and_then, built_at, after_built}
 use Rattle.grammar.specs.Grammar.{Algebra, is_sum, is_product, index_sort, part_sort, closed, turn_built, turn_with, turn_on, on_turn, turn, chain, level, part, dotted, bracketed, pointed, named, mux_third, mux_second, muxed, kept, regged, inverted, factor, term, expression, nested}
 use Rattle.grammar.specs.Modules.{then_turn, word_turn, repeat}

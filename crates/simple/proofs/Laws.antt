@@ -1,6 +1,6 @@
 -- Simple statements go forward, so the numbers of a list are its first turn and then the rest of it.
 -- Assumes nothing.
-use mathlib.Core.Path.{◌≡◌, sym, ◌∙◌}
+use mathlib.Core.Path.{◌≡◌}
 use mathlib.Core.Bool.{Bool, true, false}
 use mathlib.Core.List.{List, [], ◌∷◌}
 use Prim.Native.Nat.{ℕ, suc, ◌+◌, ◌-◌, ◌<◌, ◌≤◌}
@@ -18,7 +18,6 @@ use Rattle.judging.specs.Judging.{Meaning, valued, signal, nothing, meaning_of}
 use Rattle.judging.specs.Reading.{State, reads}
 use Rattle.readers.specs.Readers.{inner_of, index_of, expression_of}
 use Rattle.parts.specs.Parts.{used_at, allows, one_more, miscounted_from}
-use Rattle.parts.proofs.Runs.{none_more}
 use Rattle.simple.specs.Statements.{Target, element, missed, target_on, upward, target_of, assignment_of, gave_of, number_turn, numbers_of, list_of, one_of, position_of, placed_of, behind_of, act_of, simple_of}
 
 module _ (s t : List ℕ) (d : ℕ) where
@@ -114,10 +113,3 @@ module _ (s t : List ℕ) (d : ℕ) where
   near_simple st e from x l r =
       near_pick (from + 1) (allows x.0 used_at 4096) (act_of s t d st e (one_more x.0 used_at 4096, x.1)) (no 6 st x)
       (λ b. near-act st e from (one_more x.0 used_at 4096, x.1) l r) (λ b. tt)
-
-  -- ---- what the code did, as the definitions say it
-
-  pub simple_none : (st e : ℕ) (x : State) (l : List ℕ) (b : Bool) → b ≡ false → b ≡ allows x.0 used_at 4096 → l ≡ one_more x.0 used_at 4096
-      → no 6 st (l, x.1) ≡ simple_of s t d st e x
-  unfolding simple_of
-  simple_none st e x l b n a q = rw (q ∙ none_more x.0 used_at 4096 (sym a ∙ n)) (simp (sym a ∙ n))

@@ -22,9 +22,9 @@ pub struct Aim {
 }
 
 // How many statements and rounds of a FOR there may be together, and the place of the lent memory that they are counted at.
-const STATEMENTS: u32 = 4096;
+pub const STATEMENTS: u32 = 4096;
 
-const USED_AT: usize = 2585;
+pub const USED_AT: usize = 2585;
 
 // The target whose name is from start on to end.
 #[tactic(auto, using(std::proofs::lemmas::Grind::common_steps), unfolding(crate::specs::Statements::target_of))]
@@ -112,6 +112,7 @@ fn number_turn(
 }
 
 // The numbers of a list, behind its `[`.
+#[tactic(auto, using(std::proofs::lemmas::Grind::common_steps, crate::proofs::Laws::numbers_more, crate::proofs::Laws::numbers_last, crate::proofs::Laws::numbers_falls), unfolding(crate::specs::Statements::numbers_of))]
 fn numbers(
     scope: Scope,
     room: &mut [u32],
@@ -284,7 +285,7 @@ fn act(
 }
 
 // A simple statement: it is counted first.
-#[tactic(auto, using(std::proofs::lemmas::Grind::common_steps), unfolding(crate::specs::Statements::simple_of))]
+#[tactic(auto, using(std::proofs::lemmas::Grind::common_steps, parts::proofs::Runs::none_more), unfolding(crate::specs::Statements::simple_of))]
 pub fn simple(
     scope: Scope,
     room: &mut [u32],

@@ -1,13 +1,11 @@
 -- Statements never go back, so a run of statements is its first turn, and then the run; rounds, one by one.
 -- Assumes nothing.
-use mathlib.Core.Path.{◌≡◌, refl, sym, ap, ap₂, ◌∙◌}
-use mathlib.Core.Bool.{Bool, true, false}
+use mathlib.Core.Path.{◌≡◌, refl, ap, ◌∙◌}
 use mathlib.Core.List.{List}
 use Prim.Native.Nat.{ℕ, zero, suc, ◌+◌, ◌-◌, ◌<◌, ◌≤◌}
 use native.Mathlib.Omega.{arith}
 use native.Mathlib.Numerals.{sub-one}
-use lib.ListN.{length, take, drop, length-drop}
-use lib.Seq.{take_all}
+use lib.ListN.{length}
 use lib.Dec.{eqb, ltb}
 use borrow.Author.Tests.{eqb-false}
 use lib.IntN.{ℤ, pos}
@@ -20,11 +18,9 @@ use Rattle.grammar.proofs.Chain.{Near, PastT, other}
 use Rattle.grammar.proofs.Turns.{near_then, near_pick, turn_pick, near_word, turn_word, near_closed, repeat_more, repeat_last, repeat_falls, near_repeat}
 use Rattle.judging.specs.Reading.{State}
 use Rattle.readers.specs.Readers.{expression_of}
-use Rattle.parts.specs.Parts.{used_at, allows, one_more}
-use Rattle.parts.proofs.Runs.{none_more}
 use Rattle.simple.specs.Statements.{simple_of}
 use Rattle.simple.proofs.Laws.{near_expression, near_simple}
-use Rattle.unroll.specs.Loops.{with_loop, pass_turn, passed_of, Range, upper_of, lower_of, range_of, header_of, round_of, turns_of, closed_by, loop_of, for_from, again, statement_turn, statements_with, for_of, statements_of}
+use Rattle.unroll.specs.Loops.{pass_turn, passed_of, upper_of, lower_of, range_of, header_of, round_of, turns_of, closed_by, loop_of, for_from, again, statement_turn, statements_with, for_of, statements_of}
 
 -- ---- passing over a body
 
@@ -112,27 +108,6 @@ module _ (s t : List ℕ) (body : List ℕ → ℕ → State → Outcome State �
   near-for-from d p from at x l =
       near_then from (header_of s t d at x) _ (near-header s t d from at x l) (λ h q y l. near-loop p h.first h.past h.low h.high q y from l)
 
-  module _ (p st e q r n : ℕ) (z : ℤ) (x : State) where
-    some_left : 0 < n → n ≡ suc (n - 1)
-    some_left h = omega arith
-
-    pub turns_more : (v : ℤ) (at : ℕ) (y : State) → 0 < n → round_of s t body p st e q z x ≡ ok v at y
-        → turns_of s t body p st e q r n z x ≡ turns_of s t body p st e q r (n - 1) (nextℤ z) y
-    unfolding turns_of
-    turns_more v at y h o =
-        ap (λ (m : ℕ). turns_of s t body p st e q r m z x) (some_left h)
-        ∙ ap (λ (o : Outcome State ℤ). and_then o (λ v at y. turns_of s t body p st e q r (n - 1) (nextℤ z) y)) o
-
-    pub turns_halt : (k w : ℕ) (y : State) → 0 < n → round_of s t body p st e q z x ≡ no k w y → turns_of s t body p st e q r n z x ≡ no k w y
-    unfolding turns_of
-    turns_halt k w y h o =
-        ap (λ (m : ℕ). turns_of s t body p st e q r m z x) (some_left h)
-        ∙ ap (λ (o : Outcome State ℤ). and_then o (λ v at y. turns_of s t body p st e q r (n - 1) (nextℤ z) y)) o
-
-    pub turns_done : n ≤ 0 → turns_of s t body p st e q r n z x ≡ ok (pos 0) r x
-    unfolding turns_of
-    turns_done h = let e₀ : n ≡ 0 = omega arith in ap (λ (m : ℕ). turns_of s t body p st e q r m z x) e₀
-
 -- ---- statements
 
 module _ (s t : List ℕ) (d : ℕ) (loops : ℕ → ℕ → State → Outcome State ℤ)
@@ -196,43 +171,17 @@ module _ (s t : List ℕ) (d : ℕ) where
   pub statements_falls : (w : ℤ) (at e : ℕ) (x y : State) → statement_turn s t d (for_of s d t) (pos 0) at x ≡ more w e y → length s - e < length s - at
   statements_falls w at e x y q = repeat_falls s (statement_turn s t d (for_of s d t)) (far s t d (for_of s d t) (near_for s d t)) (pos 0) w at e x y q
 
--- the names of a table, as they are lent
-pub lent_whole : (l u : List ℕ) (n : ℕ) → length l ≡ 640 → n ≤ 640 → drop n l ≡ u → take (640 - n) (drop n l) ≡ u
-lent_whole l u n e h q = take_all (640 - n) (drop n l) (simp length-drop (omega arith)) ∙ q
+-- rounds, where so many are left: one, which may be refused, or none
+module _ (s t : List ℕ) (body : List ℕ → ℕ → State → Outcome State ℤ) (p st e q r n : ℕ) (z : ℤ) (x : State) where
+  pub turns_more : (m : ℕ) (v : ℤ) (at : ℕ) (y : State) (w : ℤ) → n ≡ suc m → ok v at y ≡ round_of s t body p st e q z x → w ≡ nextℤ z
+      → turns_of s t body p st e q r m w y ≡ turns_of s t body p st e q r n z x
+  unfolding turns_of
+  turns_more m v at y w h o k = rw (h, k) (simp (← o))
 
--- ---- what the code did, as the definitions say it
+  pub turns_halt : (k w : ℕ) (y : State) → 0 < n → no k w y ≡ round_of s t body p st e q z x → no k w y ≡ turns_of s t body p st e q r n z x
+  unfolding turns_of
+  turns_halt k w y h o = let some : n ≡ suc (n - 1) = omega arith in rw some (simp (← o))
 
-module _ (s t : List ℕ) (body : List ℕ → ℕ → State → Outcome State ℤ) (p st e q : ℕ) (z : ℤ) (x : State) (l : List ℕ) (b : Bool)
-    (told : b ≡ allows x.0 used_at 4096) (counted : l ≡ one_more x.0 used_at 4096) where
-  pub round_goes : (u : List ℕ) (r : Outcome State ℤ) → b ≡ true → u ≡ with_loop t st e z → r ≡ body u q (l, x.1) → r ≡ round_of s t body p st e q z x
-  unfolding round_of
-  round_goes u r h m o =
-      o ∙ ap₂ (λ (u l : List ℕ). body u q (l, x.1)) m counted
-      ∙ sym (ap (λ (c : Bool). pick c (body (with_loop t st e z) q (one_more x.0 used_at 4096, x.1)) (no 6 p x)) (sym told ∙ h))
-
-  pub round_none : b ≡ false → no 6 p (l, x.1) ≡ round_of s t body p st e q z x
-  unfolding round_of
-  round_none h =
-      ap (λ (l : List ℕ). no 6 p (l, x.1)) (counted ∙ none_more x.0 used_at 4096 (sym told ∙ h))
-      ∙ sym (ap (λ (c : Bool). pick c (body (with_loop t st e z) q (one_more x.0 used_at 4096, x.1)) (no 6 p x)) (sym told ∙ h))
-
-module _ (s t : List ℕ) (d p at : ℕ) (x : State) (nz : d ≡ 0 → ⊥) where
-  pub for_goes : (h : Range) (q : ℕ) (y : State) (r : Outcome State ℤ) → ok h q y ≡ header_of s t (d - 1) at x
-      → r ≡ loop_of s t (statements_of s (d - 1)) p h.first h.past h.low h.high q y → r ≡ for_of s d t p at x
-  unfolding for_from
-  for_goes h q y r m o =
-      o ∙ sym (for_some s d t p at x nz
-      ∙ sym (ap (λ (o : Outcome State Range). and_then o (λ h q y. loop_of s t (statements_of s (d - 1)) p h.first h.past h.low h.high q y)) m))
-
-  pub for_halts : (n w : ℕ) (y : State) → no n w y ≡ header_of s t (d - 1) at x → no n w y ≡ for_of s d t p at x
-  unfolding for_from
-  for_halts n w y m =
-      sym (for_some s d t p at x nz
-      ∙ sym (ap (λ (o : Outcome State Range). and_then o (λ h q y. loop_of s t (statements_of s (d - 1)) p h.first h.past h.low h.high q y)) m))
-
--- one round more: what is left then
-module _ (s t : List ℕ) (body : List ℕ → ℕ → State → Outcome State ℤ) (p st e q r n : ℕ) (z w : ℤ) (x : State) where
-  pub turns_step : {v : ℤ} {at : ℕ} {y : State} → 0 < n → ok v at y ≡ round_of s t body p st e q z x → w ≡ nextℤ z
-      → turns_of s t body p st e q r (n - 1) w y ≡ turns_of s t body p st e q r n z x
-  turns_step {v} {at} {y} h o m =
-      ap (λ (w : ℤ). turns_of s t body p st e q r (n - 1) w y) m ∙ sym (turns_more s t body p st e q r n z x v at y h (sym o))
+  pub turns_done : n ≡ 0 → ok (pos 0) r x ≡ turns_of s t body p st e q r n z x
+  unfolding turns_of
+  turns_done h = rw h refl

@@ -1,6 +1,6 @@
 -- Statements and FOR, unrolled where they stand in a text that is of the grammar: the body of a FOR is read again for each round. Document 01, 'The
 -- language we take' and 'Refusal numbers', order (4); decisions 13, 21, 22.
-use Rattle.std.specs.Prelude.{ℕ, zero, suc, ◌+◌, ◌-◌, List, length, eqb, ltb, ℤ, pos, negsuc}
+use Rattle.std.specs.Prelude.{ℕ, zero, suc, ◌+◌, ◌-◌, List, length, eqb, ltb, ℤ, pos, negsuc, Result, Ok, Err}
 use Rattle.basics.specs.Choice.{pick}
 use Rattle.words.specs.Words.{next_word}
 use Rattle.integers.specs.Integers.{num, nextℤ, rounds_of}
@@ -12,12 +12,12 @@ use Rattle.judging.specs.Reading.{State}
 use Rattle.readers.specs.Readers.{expression_of}
 use Rattle.parts.specs.Parts.{used_at, allows, one_more}
 use Rattle.simple.specs.Statements.{simple_of}
+use Rattle.basics.specs.declared.refusal.Refusal.{Refusal}
+use Rattle.basics.specs.Refusal.{number_of}
+use Rattle.words.specs.declared.Cursor.{Cursor}
 use Rattle.unroll.specs.declared.Pass.{Pass}
-use Rattle.unroll.specs.declared.Pass.TheVariants.{Deeper, Ended, Off}
-use Rattle.unroll.specs.declared.Over.{Over}
-use Rattle.unroll.specs.declared.Over.TheVariants.{Behind, Cut}
+use Rattle.unroll.specs.declared.Pass.TheVariants.{Deeper, Ended}
 use Rattle.unroll.specs.declared.Header.{Header}
-use Rattle.unroll.specs.declared.Header.TheVariants.{Bounds, Bad}
 
 -- the names with the loop variable from st to e in front, which hides an outer name: its value is z
 abbrev pub with_loop : List ℕ → ℕ → ℕ → ℤ → List ℕ
@@ -37,14 +37,14 @@ pass_turn s l at x =
 unfoldable pub passed_of : List ℕ → ℕ → Outcome (Unit {0}) ℕ
 passed_of s at = repeat (pass_turn s) (suc (length s)) 0 at tt
 
-abbrev pub seen_pass : Pass → Turn (Unit {0}) ℕ
-seen_pass (Deeper l c) = more l c.at tt
-seen_pass (Ended c) = last (ok 0 c.at tt)
-seen_pass (Off n p) = last (no n p tt)
+abbrev pub seen_pass : Result Pass Refusal → Turn (Unit {0}) ℕ
+seen_pass (Ok (Deeper l c)) = more l c.at tt
+seen_pass (Ok (Ended c)) = last (ok 0 c.at tt)
+seen_pass (Err r) = last (no (number_of r.reason) r.place tt)
 
-abbrev pub seen_over : Over → Outcome (Unit {0}) ℕ
-seen_over (Behind c) = ok 0 c.at tt
-seen_over (Cut n p) = no n p tt
+abbrev pub seen_over : Result Cursor Refusal → Outcome (Unit {0}) ℕ
+seen_over (Ok c) = ok 0 c.at tt
+seen_over (Err r) = no (number_of r.reason) r.place tt
 
 -- the name of a FOR, from its first byte to the place past it, and its bounds
 pub record Range : Type 0 where
@@ -56,9 +56,9 @@ pub record Range : Type 0 where
 abbrev pub range : ℕ → ℕ → ℤ → ℤ → Range
 range st e a b = record { first = st; past = e; low = a; high = b }
 
-abbrev pub seen_header : Header → List ℕ → Outcome State Range
-seen_header (Bounds st e a b n c) room = ok (range st e (num a) (num b)) c.at (room, n)
-seen_header (Bad k p n) room = no k p (room, n)
+abbrev pub seen_header : Result Header Refusal → State → Outcome State Range
+seen_header (Ok h) x = ok (range h.start h.end (num h.low) (num h.high)) h.next.at x
+seen_header (Err r) x = no (number_of r.reason) r.place x
 
 -- what stands before the body of a FOR, with d levels left: the bounds are valued before the variable exists
 module _ (s t : List ℕ) (d : ℕ) where

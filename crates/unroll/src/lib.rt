@@ -1,606 +1,316 @@
 // Statements and FOR, carried out where they stand in the text: the body of a FOR is read again for each round.
 #![tactic(auto)]
 
-ghost use Rattle.std.specs.Prelude.{◌≡◌, ◌≤◌, pos};
-ghost use Rattle.integers.specs.Integers.{num};
+ghost use Rattle.std.specs.Prelude.{◌≡◌, pos};
+ghost use Rattle.integers.specs.Integers.{num, rounds_of};
 ghost use Rattle.names.specs.Names.{held};
 ghost use Rattle.judging.specs.Reading.{seen, seen_step};
 ghost use Rattle.unroll.specs.Loops.{with_loop, pass_turn, passed_of, seen_pass, seen_over, seen_header, upper_of, lower_of, range_of, header_of, round_of, turns_of, loop_of, statement_turn, for_of, statements_of};
 
+use basics::refusal::{Reason, Refusal};
 use integers::Num;
-use judging::{Read, Step};
-use names::Table;
-use words::{Cursor, Taken};
+use judging::{Read, Scope, Sort, Step};
+use names::{Entry, Table};
+use words::{Cursor, Kind};
 
-// One word of a body that is passed over.
-#[derive(Clone, Copy)]
+// One word of a body that is passed over: the body goes on, so many bodies being open within it, or has ended.
+#[derive(Clone, Copy, Debug, PartialEq, Eq)]
 pub enum Pass {
     Deeper { level: u8, next: Cursor },
-    Ended { next: Cursor },
-    Off { number: u8, place: usize },
+    Ended(Cursor),
 }
 
-// The place past a body's END.
-#[derive(Clone, Copy)]
-pub enum Over {
-    Behind { next: Cursor },
-    Cut { number: u8, place: usize },
+// What stands before the body of a FOR: its name from start on to end, its bounds, and the cursor at its body.
+#[derive(Clone, Copy, Debug, PartialEq, Eq)]
+pub struct Header {
+    pub start: usize,
+    pub end: usize,
+    pub low: Num,
+    pub high: Num,
+    pub next: Cursor,
 }
 
-// What stands before the body of a FOR.
-#[derive(Clone, Copy)]
-pub enum Header {
-    Bounds {
-        start: usize,
-        end: usize,
-        low: Num,
-        high: Num,
-        count: usize,
-        next: Cursor,
-    },
-    Bad {
-        number: u8,
-        place: usize,
-        count: usize,
-    },
-}
+// How many bodies open within one are counted, at most.
+const OPEN: u8 = 200;
 
 // The names with a loop variable in front.
 fn with_loop(names: &[u16], start: usize, end: usize, value: Num) -> Table
-    ensures { (result.top ≤ 640) × (held result ≡ with_loop names.now start end (num value)) }
+    ensures { held result ≡ with_loop names.now start end (num value) }
 {
-    match value {
-        Num::Up(m) => names::extend(names, start, basics::span(start, end), 3, m, 0),
-        Num::Down(m) => names::extend(names, start, basics::span(start, end), 3, m, 1),
-    }
+    let (value, size) = match value {
+        Num::Up(m) => (m, 0),
+        Num::Down(m) => (m, 1),
+    };
+    let entry = Entry {
+        kind: names::VARIABLE,
+        value,
+        size,
+    };
+    Table::extend(names, start, basics::span(start, end), entry)
 }
 
 // One word of a body that is passed over.
-fn pass_turn(text: &[u8], level: u8, from: Cursor) -> Pass
+#[tactic(auto, using(std::proofs::lemmas::Grind::common_steps, words::proofs::Codes::code_other), unfolding(crate::specs::Loops::pass_turn))]
+fn pass_turn(text: &[u8], level: u8, from: Cursor) -> Result<Pass, Refusal>
     ensures { seen_pass result ≡ pass_turn text.now level from.at tt }
 {
-    match from.next(text) {
-        Taken::Word {
-            kind,
-            start,
-            value: _,
+    let word = from.next(text)?;
+    let next = word.next;
+    match word.kind {
+        Kind::TextEnd => Err(Refusal::new(Reason::Grammar, word.start)),
+        Kind::For if level < OPEN => Ok(Pass::Deeper {
+            level: level + 1,
             next,
-        } => {
-            if kind == 0 {
-                return Pass::Off {
-                    number: 2,
-                    place: start,
-                };
-            }
-            if kind == 200 {
-                if level < 200 {
-                    return Pass::Deeper {
-                        level: level + 1,
-                        next,
-                    };
-                }
-                return Pass::Deeper { level, next };
-            }
-            if kind == 202 {
-                if level == 0 {
-                    return Pass::Ended { next };
-                }
-                return Pass::Deeper {
-                    level: level - 1,
-                    next,
-                };
-            }
-            Pass::Deeper { level, next }
-        }
-        Taken::Refused { number, place } => Pass::Off { number, place },
+        }),
+        Kind::End if level == 0 => Ok(Pass::Ended(next)),
+        Kind::End => Ok(Pass::Deeper {
+            level: level - 1,
+            next,
+        }),
+        _ => Ok(Pass::Deeper { level, next }),
     }
 }
 
 // The place past the END that closes a body.
-fn pass_over(text: &[u8], from: Cursor) -> Over
+#[tactic(auto, using(std::proofs::lemmas::Grind::common_steps, crate::proofs::Laws::pass_more, crate::proofs::Laws::pass_last, crate::proofs::Laws::pass_falls), unfolding(crate::specs::Loops::passed_of))]
+fn pass_over(text: &[u8], from: Cursor) -> Result<Cursor, Refusal>
     ensures { seen_over result ≡ passed_of text.now from.at }
 {
-    let mut level: u8 = 0;
-    let mut at = from.at;
+    let mut level = 0;
+    let mut at = from;
     loop {
-        match pass_turn(text, level, Cursor { at }) {
-            Pass::Deeper { level: l, next } => {
-                level = l;
-                at = next.at;
+        match pass_turn(text, level, at)? {
+            Pass::Deeper { level: open, next } => {
+                level = open;
+                at = next;
             }
-            Pass::Ended { next } => return Over::Behind { next },
-            Pass::Off { number, place } => return Over::Cut { number, place },
+            Pass::Ended(next) => return Ok(next),
         }
     }
 }
 
 // Behind `..` of a FOR: the upper bound and DO.
+#[tactic(auto, using(std::proofs::lemmas::Grind::common_steps, words::proofs::Codes::code_other), unfolding(crate::specs::Loops::upper_of, grammar::specs::Grammar::closed))]
 fn upper(
-    text: &[u8],
-    names: &[u16],
+    scope: Scope,
     room: &mut [u32],
-    count: usize,
+    count: &mut usize,
     start: usize,
     end: usize,
     low: Num,
     from: Cursor,
     depth: usize,
-) -> Header
-    ensures { seen_header result room.new ≡ upper_of text.now names.now depth start end (num low) from.at (room.old, count) }
+) -> Result<Header, Refusal>
+    ensures { seen_header result (room.new, count.new) ≡ upper_of scope.entry.text.now scope.entry.names.now depth start end (num low) from.at (room.old, count.old) }
 {
-    match readers::expression(text, names, room, count, 1, from, depth) {
-        Read::Value {
-            value: high,
-            count: c,
-            next,
-        } => match next.next(text) {
-            Taken::Word {
-                kind,
-                start: p,
-                value: _,
-                next: past,
-            } => {
-                if kind == 201 {
-                    return Header::Bounds {
-                        start,
-                        end,
-                        low,
-                        high,
-                        count: c,
-                        next: past,
-                    };
-                }
-                Header::Bad {
-                    number: 2,
-                    place: p,
-                    count: c,
-                }
-            }
-            Taken::Refused { number, place } => Header::Bad {
-                number,
-                place,
-                count: c,
-            },
-        },
-        Read::Refused {
-            number,
-            place,
-            count: c,
-        } => Header::Bad {
-            number,
-            place,
-            count: c,
-        },
+    let high = readers::expression(scope, room, count, Sort::Number, from, depth)?;
+    let word = high.next.next(scope.text)?;
+    match word.kind {
+        Kind::Do => Ok(Header {
+            start,
+            end,
+            low,
+            high: high.value,
+            next: word.next,
+        }),
+        _ => Err(Refusal::new(Reason::Grammar, word.start)),
     }
 }
 
 // Behind `:=` of a FOR: the lower bound and `..`.
+#[tactic(auto, using(std::proofs::lemmas::Grind::common_steps, words::proofs::Codes::code_other), unfolding(crate::specs::Loops::lower_of, grammar::specs::Grammar::closed))]
 fn lower(
-    text: &[u8],
-    names: &[u16],
+    scope: Scope,
     room: &mut [u32],
-    count: usize,
+    count: &mut usize,
     start: usize,
     end: usize,
     from: Cursor,
     depth: usize,
-) -> Header
-    ensures { seen_header result room.new ≡ lower_of text.now names.now depth start end from.at (room.old, count) }
+) -> Result<Header, Refusal>
+    ensures { seen_header result (room.new, count.new) ≡ lower_of scope.entry.text.now scope.entry.names.now depth start end from.at (room.old, count.old) }
 {
-    match readers::expression(text, names, room, count, 1, from, depth) {
-        Read::Value {
-            value: low,
-            count: c,
-            next,
-        } => match next.next(text) {
-            Taken::Word {
-                kind,
-                start: p,
-                value: _,
-                next: past,
-            } => {
-                if kind == 174 {
-                    return upper(text, names, room, c, start, end, low, past, depth);
-                }
-                Header::Bad {
-                    number: 2,
-                    place: p,
-                    count: c,
-                }
-            }
-            Taken::Refused { number, place } => Header::Bad {
-                number,
-                place,
-                count: c,
-            },
-        },
-        Read::Refused {
-            number,
-            place,
-            count: c,
-        } => Header::Bad {
-            number,
-            place,
-            count: c,
-        },
+    let low = readers::expression(scope, room, count, Sort::Number, from, depth)?;
+    let word = low.next.next(scope.text)?;
+    match word.kind {
+        Kind::Range => upper(scope, room, count, start, end, low.value, word.next, depth),
+        _ => Err(Refusal::new(Reason::Grammar, word.start)),
     }
 }
 
 // Behind the name of a FOR.
+#[tactic(auto, using(std::proofs::lemmas::Grind::common_steps, words::proofs::Codes::code_other), unfolding(crate::specs::Loops::range_of))]
 fn ranged(
-    text: &[u8],
-    names: &[u16],
+    scope: Scope,
     room: &mut [u32],
-    count: usize,
+    count: &mut usize,
     start: usize,
     end: Cursor,
     depth: usize,
-) -> Header
-    ensures { seen_header result room.new ≡ range_of text.now names.now depth start end.at (room.old, count) }
+) -> Result<Header, Refusal>
+    ensures { seen_header result (room.new, count.new) ≡ range_of scope.entry.text.now scope.entry.names.now depth start end.at (room.old, count.old) }
 {
-    match end.next(text) {
-        Taken::Word {
-            kind,
-            start: p,
-            value: _,
-            next,
-        } => {
-            if kind == 189 {
-                return lower(text, names, room, count, start, end.at, next, depth);
-            }
-            Header::Bad {
-                number: 2,
-                place: p,
-                count,
-            }
-        }
-        Taken::Refused { number, place } => Header::Bad {
-            number,
-            place,
-            count,
-        },
+    let word = end.next(scope.text)?;
+    match word.kind {
+        Kind::Becomes => lower(scope, room, count, start, end.at, word.next, depth),
+        _ => Err(Refusal::new(Reason::Grammar, word.start)),
     }
 }
 
 // Behind FOR, up to its body.
+#[tactic(auto, using(std::proofs::lemmas::Grind::common_steps, words::proofs::Codes::code_other), unfolding(crate::specs::Loops::header_of))]
 fn read_header(
-    text: &[u8],
-    names: &[u16],
+    scope: Scope,
     room: &mut [u32],
-    count: usize,
+    count: &mut usize,
     from: Cursor,
     depth: usize,
-) -> Header
-    ensures { seen_header result room.new ≡ header_of text.now names.now depth from.at (room.old, count) }
+) -> Result<Header, Refusal>
+    ensures { seen_header result (room.new, count.new) ≡ header_of scope.entry.text.now scope.entry.names.now depth from.at (room.old, count.old) }
 {
-    match from.next(text) {
-        Taken::Word {
-            kind,
-            start,
-            value: _,
-            next,
-        } => {
-            if kind == 1 {
-                return ranged(text, names, room, count, start, next, depth);
-            }
-            Header::Bad {
-                number: 2,
-                place: start,
-                count,
-            }
-        }
-        Taken::Refused { number, place } => Header::Bad {
-            number,
-            place,
-            count,
-        },
+    let word = from.next(scope.text)?;
+    match word.kind {
+        Kind::Name => ranged(scope, room, count, word.start, word.next, depth),
+        _ => Err(Refusal::new(Reason::Grammar, word.start)),
     }
 }
 
-// One round of a FOR: it is counted first.
+// One round of the FOR at a place: it is counted first.
 #[cycle(unrolling)]
+#[tactic(auto, using(std::proofs::lemmas::Grind::common_steps, parts::proofs::Runs::none_more), unfolding(crate::specs::Loops::round_of))]
 fn round(
-    text: &[u8],
-    names: &[u16],
+    scope: Scope,
     room: &mut [u32],
-    count: usize,
+    count: &mut usize,
     place: usize,
-    start: usize,
-    end: usize,
-    body: Cursor,
+    header: Header,
     value: Num,
     depth: usize,
-) -> Read
-    ensures { seen result room.new ≡ round_of text.now names.now (statements_of text.now depth) place start end body.at (num value) (room.old, count) }
+) -> Result<Read, Refusal>
+    ensures { seen result (room.new, count.new) ≡ round_of scope.entry.text.now scope.entry.names.now (statements_of scope.entry.text.now depth) place header.start header.end header.next.at (num value) (room.old, count.old) }
 {
-    if parts::one_more(room, 2585, 4096) {
-        let table = with_loop(names, start, end, value);
-        let top = table.top;
-        let inside = table.words;
-        return statements(text, &inside[top..], room, count, body, depth);
-    }
-    Read::Refused {
-        number: 6,
-        place,
-        count,
+    if parts::one_more(room, simple::USED_AT, simple::STATEMENTS) {
+        let table = with_loop(scope.names, header.start, header.end, value);
+        let inside = Scope {
+            text: scope.text,
+            names: table.lent(),
+        };
+        statements(inside, room, count, header.next, depth)
+    } else {
+        Err(Refusal::new(Reason::Limit, place))
     }
 }
 
-// Rounds of a FOR, so many from a value on.
+// The rounds of the FOR at a place, from its lower bound on; over is the cursor past its END.
 #[cycle(unrolling)]
+#[tactic(auto, using(std::proofs::lemmas::Grind::common_steps, crate::proofs::Laws::turns_more, crate::proofs::Laws::turns_halt, crate::proofs::Laws::turns_done))]
 fn turns(
-    text: &[u8],
-    names: &[u16],
+    scope: Scope,
     room: &mut [u32],
-    count: usize,
+    count: &mut usize,
     place: usize,
-    start: usize,
-    end: usize,
-    body: Cursor,
+    header: Header,
     over: Cursor,
-    value: Num,
-    times: u64,
     depth: usize,
-) -> Read
-    ensures { seen result room.new ≡ turns_of text.now names.now (statements_of text.now depth) place start end body.at over.at times (num value) (room.old, count) }
+) -> Result<Read, Refusal>
+    ensures { seen result (room.new, count.new) ≡ turns_of scope.entry.text.now scope.entry.names.now (statements_of scope.entry.text.now depth) place header.start header.end header.next.at over.at (rounds_of (num header.low) (num header.high)) (num header.low) (room.old, count.old) }
 {
-    let mut left = times;
-    let mut z = value;
-    let mut n = count;
-    while 0 < left {
-        match round(text, names, room, n, place, start, end, body, z, depth) {
-            Read::Value {
-                value: _,
-                count: c,
-                next: _,
-            } => {
-                n = c;
-                z = integers::step(z);
-                left -= 1;
-            }
-            Read::Refused {
-                number,
-                place: p,
-                count: c,
-            } => {
-                return Read::Refused {
-                    number,
-                    place: p,
-                    count: c,
-                };
-            }
-        }
+    let times = integers::rounds(header.low, header.high);
+    let mut value = header.low;
+    for _ in 0..times {
+        round(scope, room, count, place, header, value, depth)?;
+        value = integers::step(value);
     }
-    Read::Value {
+    Ok(Read {
         value: Num::Up(0),
-        count: n,
         next: over,
-    }
+    })
 }
 
-// A FOR from its body on.
+// The FOR at a place from its body on.
 #[cycle(unrolling)]
+#[tactic(auto, using(std::proofs::lemmas::Grind::common_steps), unfolding(crate::specs::Loops::loop_of))]
 fn run_loop(
-    text: &[u8],
-    names: &[u16],
+    scope: Scope,
     room: &mut [u32],
-    count: usize,
+    count: &mut usize,
     place: usize,
-    start: usize,
-    end: usize,
-    low: Num,
-    high: Num,
-    body: Cursor,
+    header: Header,
     depth: usize,
-) -> Read
-    ensures { seen result room.new ≡ loop_of text.now names.now (statements_of text.now depth) place start end (num low) (num high) body.at (room.old, count) }
+) -> Result<Read, Refusal>
+    ensures { seen result (room.new, count.new) ≡ loop_of scope.entry.text.now scope.entry.names.now (statements_of scope.entry.text.now depth) place header.start header.end (num header.low) (num header.high) header.next.at (room.old, count.old) }
 {
-    match pass_over(text, body) {
-        Over::Behind { next } => turns(
-            text,
-            names,
-            room,
-            count,
-            place,
-            start,
-            end,
-            body,
-            next,
-            low,
-            integers::rounds(low, high),
-            depth,
-        ),
-        Over::Cut { number, place: p } => Read::Refused {
-            number,
-            place: p,
-            count,
-        },
-    }
+    let over = pass_over(scope.text, header.next)?;
+    turns(scope, room, count, place, header, over, depth)
 }
 
-// Behind a FOR: one level fewer is left within it.
+// Behind the FOR at a place: one level fewer is left within it.
 #[cycle(unrolling)]
+#[tactic(auto, using(std::proofs::lemmas::Grind::common_steps, crate::proofs::Laws::for_none, crate::proofs::Laws::for_some), unfolding(crate::specs::Loops::for_from))]
 fn run_for(
-    text: &[u8],
-    names: &[u16],
+    scope: Scope,
     room: &mut [u32],
-    count: usize,
+    count: &mut usize,
     place: usize,
     from: Cursor,
     depth: usize,
-) -> Read
-    ensures { seen result room.new ≡ for_of text.now depth names.now place from.at (room.old, count) }
+) -> Result<Read, Refusal>
+    ensures { seen result (room.new, count.new) ≡ for_of scope.entry.text.now depth scope.entry.names.now place from.at (room.old, count.old) }
 {
     if depth == 0 {
-        return Read::Refused {
-            number: 6,
-            place,
-            count,
-        };
+        return Err(Refusal::new(Reason::Limit, place));
     }
-    match read_header(text, names, room, count, from, depth - 1) {
-        Header::Bounds {
-            start,
-            end,
-            low,
-            high,
-            count: c,
-            next,
-        } => run_loop(
-            text,
-            names,
-            room,
-            c,
-            place,
-            start,
-            end,
-            low,
-            high,
-            next,
-            depth - 1,
-        ),
-        Header::Bad {
-            number,
-            place: p,
-            count: c,
-        } => Read::Refused {
-            number,
-            place: p,
-            count: c,
-        },
-    }
+    let header = read_header(scope, room, count, from, depth - 1)?;
+    run_loop(scope, room, count, place, header, depth - 1)
 }
 
 // One statement.
 #[cycle(unrolling)]
+#[tactic(auto, using(std::proofs::lemmas::Grind::common_steps, words::proofs::Codes::code_other), unfolding(crate::specs::Loops::statement_turn))]
 fn statement_turn(
-    text: &[u8],
-    names: &[u16],
+    scope: Scope,
     room: &mut [u32],
-    count: usize,
+    count: &mut usize,
     from: Cursor,
     depth: usize,
-) -> Step
-    ensures { seen_step result room.new ≡ statement_turn text.now names.now depth (for_of text.now depth names.now) (pos 0) from.at (room.old, count) }
+) -> Result<Step, Refusal>
+    ensures { seen_step result (room.new, count.new) ≡ statement_turn scope.entry.text.now scope.entry.names.now depth (for_of scope.entry.text.now depth scope.entry.names.now) (pos 0) from.at (room.old, count.old) }
 {
-    match from.next(text) {
-        Taken::Word {
-            kind,
-            start,
-            value: _,
-            next,
-        } => {
-            if kind == 1 {
-                return match simple::simple(text, names, room, count, start, next, depth) {
-                    Read::Value {
-                        value: _,
-                        count: c,
-                        next: past,
-                    } => Step::More {
-                        value: Num::Up(0),
-                        count: c,
-                        next: past,
-                    },
-                    Read::Refused {
-                        number,
-                        place,
-                        count: c,
-                    } => Step::Stop {
-                        number,
-                        place,
-                        count: c,
-                    },
-                };
-            }
-            if kind == 200 {
-                return match run_for(text, names, room, count, start, next, depth) {
-                    Read::Value {
-                        value: _,
-                        count: c,
-                        next: past,
-                    } => Step::More {
-                        value: Num::Up(0),
-                        count: c,
-                        next: past,
-                    },
-                    Read::Refused {
-                        number,
-                        place,
-                        count: c,
-                    } => Step::Stop {
-                        number,
-                        place,
-                        count: c,
-                    },
-                };
-            }
-            if kind == 59 {
-                return Step::More {
-                    value: Num::Up(0),
-                    count,
-                    next,
-                };
-            }
-            Step::Last {
+    let word = from.next(scope.text)?;
+    let next = match word.kind {
+        Kind::Name => simple::simple(scope, room, count, word.start, word.next, depth)?.next,
+        Kind::For => run_for(scope, room, count, word.start, word.next, depth)?.next,
+        Kind::Semicolon => word.next,
+        _ => {
+            return Ok(Step::Last(Read {
                 value: Num::Up(0),
-                count,
                 next: from,
-            }
+            }));
         }
-        Taken::Refused { number, place } => Step::Stop {
-            number,
-            place,
-            count,
-        },
-    }
+    };
+    Ok(Step::More(Read {
+        value: Num::Up(0),
+        next,
+    }))
 }
 
 // The statements at a place, among the names that stand there, with levels of nesting left.
 #[cycle(unrolling)]
+#[tactic(auto, using(std::proofs::lemmas::Grind::common_steps, crate::proofs::Laws::statements_more, crate::proofs::Laws::statements_last, crate::proofs::Laws::statements_falls))]
 pub fn statements(
-    text: &[u8],
-    names: &[u16],
-    room: &mut [u32],
-    count: usize,
+    scope: Scope,
+    parts: &mut [u32],
+    count: &mut usize,
     from: Cursor,
     depth: usize,
-) -> Read
-    ensures { seen result room.new ≡ statements_of text.now depth names.now from.at (room.old, count) }
+) -> Result<Read, Refusal>
+    ensures { seen result (parts.new, count.new) ≡ statements_of scope.entry.text.now depth scope.entry.names.now from.at (parts.old, count.old) }
 {
-    let mut at = from.at;
-    let mut n = count;
+    let mut at = from;
     loop {
-        match statement_turn(text, names, room, n, Cursor { at }, depth) {
-            Step::More {
-                value: _,
-                count: c,
-                next,
-            } => {
-                n = c;
-                at = next.at;
-            }
-            Step::Last {
-                value,
-                count: c,
-                next,
-            } => {
-                return Read::Value {
-                    value,
-                    count: c,
-                    next,
-                };
-            }
-            Step::Stop {
-                number,
-                place,
-                count: c,
-            } => {
-                return Read::Refused {
-                    number,
-                    place,
-                    count: c,
-                };
-            }
+        match statement_turn(scope, parts, count, at, depth)? {
+            Step::More(read) => at = read.next,
+            Step::Last(read) => return Ok(read),
         }
     }
 }

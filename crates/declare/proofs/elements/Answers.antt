@@ -1,21 +1,19 @@
-use mathlib.Core.Path.{refl, sym, ◌∙◌}
-use borrow.Author.Rules.{rules}
-use Rattle.declare.specs.Declarations.{elements_of}
-use Rattle.declare.proofs.Laws.{elements_more, elements_last, elements_falls, turn_more, turn_last}
+use Rattle.std.proofs.Common.{sym, ap, ◌∙◌, eqb}
+use Rattle.words.specs.Kinds.{code}
+use Rattle.words.specs.declared.Kind.{Kind}
+use Rattle.words.specs.declared.Kind.TheVariants.{Name, Comma}
+use Rattle.words.proofs.Codes.{code_other}
+use Rattle.declare.proofs.Laws.{name_more, name_falls, names_end}
 use Rattle.declare.proofs.elements.Goals as goal
 
-pub loop-at-init : goal.loop-at-init
-unfolding elements_of
-loop-at-init c = (search rules, refl, refl)
+pub returns-in_default : goal.returns-in_default
+returns-in_default c = λ k.
+    sym (names_end _ _ _ _ _ _ _ _ _ _ c.in_ok-word.ensures (code_other _ Name c.in_default.not-Name) (code_other _ Comma c.in_default.not-Comma)) ∙ c.loop-word.invariant k
 
-pub loop-at-smaller : goal.loop-at-smaller
-loop-at-smaller c = elements_falls _ _ _ _ _ _ _ _ _ (turn_more c.args.text.now c.element_turn-made.result _ _ c.if-made-eq1.true c.element_turn-made.ensures.0)
+pub loop-word-smaller-in_ok-made-in-Name : goal.loop-word-smaller-in_ok-made-in-Name
+loop-word-smaller-in_ok-made-in-Name c =
+    name_falls _ _ _ _ _ _ _ _ _ _ c.in_ok-word.ensures (ap (λ (k : Kind). eqb (code k) 1) c.in-Name.is) _ _ _ (rw c.lent.ensures at (c.in_ok-made-in-Name.ensures 0))
 
-pub loop-at-preserved : goal.loop-at-preserved
-loop-at-preserved c = (c.element_turn-made.ensures.1, c.element_turn-made.auto.room ∙ c.loop-at.invariant.1, sym (elements_more _ _ _ _ _ _ _ _ _ (turn_more c.args.text.now c.element_turn-made.result _ _ c.if-made-eq1.true c.element_turn-made.ensures.0)) ∙ c.loop-at.invariant.2)
-
-pub shape_of-room-else-made-eq1 : goal.shape_of-room-else-made-eq1
-shape_of-room-else-made-eq1 c = c.element_turn-made.auto.room ∙ c.loop-at.invariant.1
-
-pub returns-else-made-eq1 : goal.returns-else-made-eq1
-returns-else-made-eq1 c = (sym (elements_last _ _ _ _ _ _ _ (turn_last c.args.text.now c.element_turn-made.result _ _ c.if-made-eq1.false c.element_turn-made.ensures.0)) ∙ c.loop-at.invariant.2, c.element_turn-made.ensures.1)
+pub loop-word-preserved-in_ok-made-in-Name : goal.loop-word-preserved-in_ok-made-in-Name
+loop-word-preserved-in_ok-made-in-Name c = λ k.
+    sym (name_more _ _ _ _ _ _ _ _ _ _ c.in_ok-word.ensures (ap (λ (k : Kind). eqb (code k) 1) c.in-Name.is) _ _ _ (rw c.lent.ensures at (c.in_ok-made-in-Name.ensures k))) ∙ c.loop-word.invariant k

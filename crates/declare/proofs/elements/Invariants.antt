@@ -1,14 +1,12 @@
-use mathlib.Core.Path.{◌≡◌}
-use lib.ListN.{length}
-use Prim.Native.Nat.{◌-◌, ◌≤◌}
+use Rattle.std.proofs.Common.{◌≡◌, ℕ, ◌-◌, length}
 use Rattle.names.specs.Names.{held}
-use Rattle.declare.specs.Declarations.{elements_of}
+use Rattle.declare.specs.Declarations.{class_of, elements_of}
 use Rattle.declare.proofs.Laws.{elements}
 use Rattle.declare.proofs.elements.Given as goal
 
-abbrev pub invariant-loop-at : goal.invariant-loop-at
-invariant-loop-at l =
-    (l.names.top ≤ 640) × (length l.room ≡ length l.initial.room) × (elements l.text l.class l.n (held l.names) l.at (l.room, l.k) ≡ elements_of l.text l.class l.n (held l.initial.names) l.initial.at (l.initial.room, l.initial.k))
+abbrev pub invariant-loop-word : goal.invariant-loop-word
+invariant-loop-word l =
+    (k : ℕ) → elements l.text (class_of l.section) l.length (held l.made.table) l.made.next.at (l.room, k) ≡ elements_of l.text (class_of l.section) l.length (held l.initial.made.table) l.initial.made.next.at (l.initial.room, k)
 
-abbrev pub decreases-loop-at : goal.decreases-loop-at
-decreases-loop-at l = length l.text - l.at
+abbrev pub decreases-loop-word : goal.decreases-loop-word
+decreases-loop-word l = length l.text - l.made.next.at

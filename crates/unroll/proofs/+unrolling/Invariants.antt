@@ -3,7 +3,7 @@
 use mathlib.Core.Path.{◌≡◌}
 use Prim.Native.Nat.{◌+◌, ◌-◌, ◌*◌}
 use lib.ListN.{length}
-use Rattle.integers.specs.Integers.{num}
+use Rattle.integers.specs.Integers.{num, rounds_of}
 use Rattle.unroll.specs.Loops.{turns_of, statements_of}
 use Rattle.unroll.proofs.Laws.{rest}
 use Rattle.unroll.proofs.+unrolling.Given as goal
@@ -26,14 +26,15 @@ decreases-statements l = l.depth * 6 + 2
 abbrev pub decreases-turns : goal.decreases-turns
 decreases-turns l = l.depth * 6 + 4
 
-abbrev pub invariant-statements-loop-c : goal.invariant-statements-loop-c
-invariant-statements-loop-c l = rest l.text l.names l.depth l.at (l.room, l.n) ≡ rest l.text l.names l.depth l.initial.at (l.initial.room, l.initial.n)
+abbrev pub invariant-statements-loop-read : goal.invariant-statements-loop-read
+invariant-statements-loop-read l =
+    rest l.scope.text.now l.scope.names.now l.depth l.at.at (l.parts, l.count)
+    ≡ rest l.scope.text.now l.scope.names.now l.depth l.initial.at.at (l.initial.parts, l.initial.count)
 
-abbrev pub decreases-statements-loop-c : goal.decreases-statements-loop-c
-decreases-statements-loop-c l = length l.text - l.at
+abbrev pub decreases-statements-loop-read : goal.decreases-statements-loop-read
+decreases-statements-loop-read l = length l.scope.text.now - l.at.at
 
-abbrev pub invariant-turns-loop-left : goal.invariant-turns-loop-left
-invariant-turns-loop-left l = turns_of l.text l.names (statements_of l.text l.depth) l.place l.start l.end l.body.at l.over.at l.left (num l.z) (l.room, l.n) ≡ turns_of l.text l.names (statements_of l.text l.depth) l.place l.start l.end l.body.at l.over.at l.initial.left (num l.initial.z) (l.initial.room, l.initial.n)
-
-abbrev pub decreases-turns-loop-left : goal.decreases-turns-loop-left
-decreases-turns-loop-left l = l.left
+abbrev pub invariant-turns-loop : goal.invariant-turns-loop
+invariant-turns-loop l =
+    turns_of l.scope.text.now l.scope.names.now (statements_of l.scope.text.now l.depth) l.place l.header.start l.header.end l.header.next.at l.over.at (l.times - l.counter) (num l.value) (l.room, l.count)
+    ≡ turns_of l.scope.text.now l.scope.names.now (statements_of l.scope.text.now l.depth) l.place l.header.start l.header.end l.header.next.at l.over.at (rounds_of (num l.header.low) (num l.header.high)) (num l.header.low) (l.initial.room, l.initial.count)
