@@ -1,7 +1,7 @@
 // Stage 2 of a whole text: words and grammar, literals too large, nesting. Nothing is kept but the places where the later stages start.
 #![tactic(auto)]
 
-ghost use Rattle.std.specs.Prelude.{◌≡◌};
+ghost use Rattle.std.specs.Prelude.{◌≡◌, ℕ};
 ghost use Rattle.words.specs.Kinds.{code};
 ghost use Rattle.grammar.specs.Trees.{checks};
 ghost use Rattle.grammar.specs.Modules.{constant_turn, name_turn, name_list, typed, type_of, list_turn, constants, lists, declarations, begun, headed, same_name, ended, headless};
@@ -66,10 +66,10 @@ fn name_turn(text: &[u8], from: Cursor) -> Result<Turn, Refusal>
 
 // Names with commas between them, from past the first.
 #[tactic(auto, using(std::proofs::lemmas::Grind::common_steps), unfolding(grammar::specs::Modules::name_list))]
-fn name_list(text: &[u8], start: usize, end: Cursor) -> Result<Cursor, Refusal>
-    ensures { seen_end result ≡ name_list checks blank text.now start end.at tt }
+fn name_list(text: &[u8], from: Cursor) -> Result<Cursor, Refusal>
+    ensures { (start : ℕ) → seen_end result ≡ name_list checks blank text.now start from.at tt }
 {
-    phrases::repeat(end, &|at| name_turn(text, at))
+    phrases::repeat(from, &|at| name_turn(text, at))
 }
 
 // A type: BIT, or `[`, a length, `]` and BIT.
@@ -108,7 +108,7 @@ fn list_turn(text: &[u8], class: Kind, from: Cursor) -> Result<Turn, Refusal>
     if word.kind != Kind::Name {
         return Ok(Turn::Last(from));
     }
-    let names = name_list(text, word.start, word.next)?;
+    let names = name_list(text, word.next)?;
     let end = list_type(text, names)?;
     Ok(Turn::More(end))
 }

@@ -1,7 +1,7 @@
 // Stage 2 of expressions and statements: words and grammar, literals too large, nesting. Nothing is kept but where they end.
 #![tactic(auto)]
 
-ghost use Rattle.std.specs.Prelude.{◌≡◌, false};
+ghost use Rattle.std.specs.Prelude.{◌≡◌, ℕ, false};
 ghost use Rattle.words.specs.declared.Cursor.{Cursor};
 ghost use Rattle.words.specs.Kinds.{code};
 ghost use Rattle.grammar.specs.Grammar.{expression, named, nested};
@@ -127,8 +127,8 @@ fn number_list(text: &[u8], place: usize, from: Cursor, depth: usize) -> Result<
 
 // Behind `::`: a list of numbers, or one.
 #[tactic(auto, using(std::proofs::lemmas::Grind::common_steps, crate::proofs::Lists::handed), unfolding(grammar::specs::Modules::positioned))]
-fn position(text: &[u8], place: usize, from: Cursor, depth: usize) -> Result<Cursor, Refusal>
-    ensures { seen_end result ≡ positioned checks blank text.now depth place tt from.at tt }
+fn position(text: &[u8], from: Cursor, depth: usize) -> Result<Cursor, Refusal>
+    ensures { (place : ℕ) → seen_end result ≡ positioned checks blank text.now depth place tt from.at tt }
 {
     let word = from.next(text)?;
     match word.kind {
@@ -137,15 +137,15 @@ fn position(text: &[u8], place: usize, from: Cursor, depth: usize) -> Result<Cur
     }
 }
 
-// Behind the designator of the statement at a place.
+// Behind the designator of a statement.
 #[tactic(auto, using(std::proofs::lemmas::Grind::common_steps, crate::proofs::Lists::handed), unfolding(grammar::specs::Modules::aimed))]
-fn aim(text: &[u8], place: usize, from: Cursor, depth: usize) -> Result<Cursor, Refusal>
-    ensures { seen_end result ≡ aimed checks blank text.now depth place tt from.at tt }
+fn aim(text: &[u8], from: Cursor, depth: usize) -> Result<Cursor, Refusal>
+    ensures { (place : ℕ) → seen_end result ≡ aimed checks blank text.now depth place tt from.at tt }
 {
     let word = from.next(text)?;
     match word.kind {
         Kind::Becomes => whole(text, word.next, depth),
-        Kind::Place => position(text, place, word.next, depth),
+        Kind::Place => position(text, word.next, depth),
         _ => Err(Refusal::new(Reason::Grammar, word.start)),
     }
 }
@@ -156,7 +156,7 @@ fn simple_statement(text: &[u8], start: usize, end: Cursor, depth: usize) -> Res
     ensures { seen_end result ≡ simple checks blank text.now depth start end.at tt }
 {
     let next = indexed(text, start, end, depth)?;
-    aim(text, start, next, depth)
+    aim(text, next, depth)
 }
 
 // A statement, possibly empty.

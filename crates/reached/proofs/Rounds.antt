@@ -5,10 +5,18 @@ use mathlib.Core.Bool.{Bool, true, false, cond}
 use Prim.Native.Nat.{ℕ, zero, suc, ◌+◌, ◌-◌, ◌<◌, ◌≤◌}
 use native.Mathlib.Omega.{arith}
 use lib.Dec.{ltb}
-use lib.IntN.{ℤ, pos, negsuc, sub_ℕ, ◌+ℤ◌, +ℤ_idr, +ℤ_assoc}
-use borrow.Author.Tests.{ltb-true, ltb-false, leb-true, lt-ltb, ne_eqb}
+use lib.IntN.{ℤ, pos, negsuc, sub_ℕ, ◌+ℤ◌, ◌-ℤ◌, +ℤ_idr, +ℤ_assoc}
+use borrow.Author.Tests.{ltb-true, ltb-false, leb-true, lt-ltb, le-ltb, ne_eqb}
 use Rattle.integers.specs.Integers.{within, up_to, rounds_of, nextℤ}
-use Rattle.integers.proofs.Signs.{sub_pos, negsuc_sub}
+
+-- differences, by signs
+sub_pos : (m n : ℕ) → sub_ℕ m n ≡ pos m -ℤ pos n
+sub_pos m zero = simp (le-ltb m 0 (omega arith)) (ap pos (let h : m - 0 ≡ m + 0 = omega arith in h))
+sub_pos m (suc n) = refl
+
+negsuc_sub : (m n : ℕ) → negsuc (m + n) ≡ negsuc m -ℤ pos n
+negsuc_sub m zero = ap negsuc (let h : m + 0 ≡ m = omega arith in h) ∙ sym (+ℤ_idr (negsuc m))
+negsuc_sub m (suc n) = ap negsuc (let h : m + suc n ≡ suc (m + n) = omega arith in h)
 
 -- how many numbers there are from a to b, by signs
 up_sub : (a b : ℕ) → up_to (sub_ℕ a b) ≡ a + 1 - b

@@ -12,8 +12,9 @@ use lib.IntN.{ℤ, pos}
 use borrow.Author.Tests.{lt-ltb, eqb-true}
 use Rattle.basics.specs.Choice.{pick}
 use Rattle.words.specs.declared.Cursor.{Cursor}
-use Rattle.words.specs.Taken.{Word}
+use Rattle.words.specs.Taken.{Taken, Word}
 use Rattle.words.specs.Words.{next_word}
+use Rattle.words.proofs.Forward.{Forward, next_forward}
 use Rattle.integers.specs.Integers.{nextℤ}
 use Rattle.grammar.specs.Outcome.{Outcome, ok, no, Built, built, bad, more, last, and_then, built_at, after_built, and_built}
 use Rattle.grammar.specs.Grammar.{Algebra, named, bracketed, pointed, part, dotted, factor, nested, index_sort}
@@ -25,7 +26,6 @@ use Rattle.grammar.proofs.Chain.{Past, past_nested}
 use Rattle.judging.specs.Judging.{Meaning, valued, signal, nothing, meaning_of}
 use Rattle.judging.specs.Reading.{State, reads}
 use Rattle.readers.specs.Readers.{index_of, expression_of}
-use Rattle.readers.proofs.Links.{word_past}
 use Rattle.parts.specs.Parts.{used_at, allows, one_more, assigned_in, positioned_in, miscounted_from}
 use Rattle.simple.specs.Statements.{target_on, target_of, assignment_of, gave_of, number_turn, numbers_of, counted_of, list_of, one_of, position_of, placed_of, behind_of, act_of, simple_of}
 use Rattle.simple.proofs.Laws.{rest, numbers_more, numbers_last}
@@ -130,8 +130,9 @@ module _ (s t : List ℕ) (d : ℕ) where
 
   further : (e k m st v : ℕ) (c : Cursor) → next_word s e ≡ Word k st v c → eqb k m ≡ true → (m ≡ 0 → ⊥) → e < c.at
   further e k m st v c q b nz =
-      let h : length s - c.at < length s - e = word_past s e k st v c (sym q) (λ z. nz (sym (eqb-true k m b) ∙ z)) in
-      omega arith
+      let f : Forward (length s) e (Word k st v c) = subst (λ (t : Taken). Forward (length s) e t) q (next_forward s e) in
+      let h : (e < c.at) × (e < length s) = f (λ z. nz (sym (eqb-true k m b) ∙ z)) in
+      h.0
 
   module _ (small : length s ≤ 65535) (q at f : ℕ) (x : State) where
     -- they are counted as they are valued

@@ -1,8 +1,7 @@
 use Rattle.std.proofs.Common.{rules, of_calls}
 use Rattle.std.specs.Fn.Refs.{fn_at_ref}
-use contract.BorrowLft.{⊑_meet}
 use Rattle.checking.proofs.Sections.{name_nearer}
 use Rattle.checking.proofs.name_list.Goals as goal
 
 pub repeat-requires : goal.repeat-requires
-repeat-requires c κs within = (search (⊑_meet, rules, within.0, within.1.0) depth 12 fits 9000, (search (of_calls, fn_at_ref) parts 8, ((λ at r p. search (rules, p.1)), name_nearer _)))
+repeat-requires c κs within = search (of_calls, fn_at_ref, rules, within.0, within.1.0, name_nearer) parts 8
