@@ -44,4 +44,4 @@ said says parts map map-old before now room y r six m w z =
 pub say_once : (o : Outcome) (out room : List ℕ) (a b : Result ℕ Refusal) (x y v w : List ℕ)
     → Does written_of o out room (answered a) x v → Does written_of o out room (answered b) y w → (a ≡ b) × (x ≡ y) × (v ≡ w)
 say_once o out room a b x y v w p q =
-    let e = does_once written_of o out room (answered a) (answered b) x y v w p q in (answered_once a b e.0, e.1)
+    let e = does_once written_of o out room (answered a) (answered b) x y v w p q in (answered_once a b e.0, e.1, e.2)

@@ -3,7 +3,7 @@ use Rattle.askcall.proofs.Laws.{short_room, lent_room}
 use Rattle.askcall.proofs.ask.Goals as goal
 
 pub returns-then-room-lt65536 : goal.returns-then-room-lt65536
-returns-then-room-lt65536 c = short_room _ _ _ _ _ c.clear.ensures c.if-room-lt65536.true
+returns-then-room-lt65536 c = rw c.new.ensures (short_room _ _ _ _ _ c.clear.ensures c.if-room-lt65536.true)
 
 pub ask_text-requires : goal.ask_text-requires
 ask_text-requires c = record {
