@@ -1,15 +1,10 @@
 -- What `compile` answers and leaves (document 01, 'Refusal numbers'). Assumes nothing.
-use Rattle.std.specs.Prelude.{List, ℕ, length}
-use Rattle.fusetext.specs.Outcome.{Outcome, gives, refuses}
+use Rattle.std.specs.Prelude.{List, ℕ, length, Result}
+use Rattle.basics.specs.declared.refusal.Refusal.{Refusal}
+use Rattle.basics.specs.Refusal.{answered}
 use Rattle.texts.specs.Calls.{compiled_of, Does}
-use Rattle.compilecall.specs.declared.Compiled.{Compiled}
-use Rattle.compilecall.specs.declared.Compiled.TheVariants.{File, Refused}
-
--- the answer for each outcome: the file's length, or the refusal's number and place
-abbrev pub compiled_as : Outcome → Compiled
-compiled_as (gives file) = File (length file)
-compiled_as (refuses number place) = Refused number place
+use Rattle.fusewrite.specs.Writing.{written_of}
 
 -- What a call of `compile` does.
-abbrev pub Compiles : List ℕ → List ℕ → List ℕ → Compiled → List ℕ → List ℕ → Type 0
-Compiles text out room = Does compiled_as (compiled_of text (length out) (length room)) out room
+abbrev pub Compiles : List ℕ → List ℕ → List ℕ → Result ℕ Refusal → List ℕ → List ℕ → Type 0
+Compiles text out room answer = Does written_of (compiled_of text (length out) (length room)) out room (answered answer)

@@ -12,14 +12,9 @@ use Rattle.basics.specs.Refusal.{Numbered, number_of as reason_number}
 use Rattle.basics.specs.declared.refusal.Refusal.{Refusal as Refused}
 use Rattle.fusetext.specs.Outcome.{Outcome, gives, refuses, left}
 use Rattle.texts.specs.Calls.{compiled_of}
-use Rattle.compilecall.specs.declared.Compiled.{Compiled}
-use Rattle.compilecall.specs.declared.Compiled.TheVariants.{File as Filed, Refused as NotFiled}
-use Rattle.compilecall.specs.Compiling.{compiled_as, Compiles}
-use Rattle.fitcall.specs.declared.Fitted.{Fitted}
-use Rattle.fitcall.specs.declared.Fitted.TheVariants.{Lines, Refused as NotLined}
-use Rattle.fitcall.specs.Fitting.{fitted_of, fitted_as, Fits}
+use Rattle.compilecall.specs.Compiling.{Compiles}
+use Rattle.fitcall.specs.Fitting.{fitted_of, Fits}
 use Rattle.question.specs.Question.Asked.{Refused as Refuses}
-use Rattle.askcall.specs.declared.Graded.TheVariants.{Refused as NotGraded}
 use Rattle.askcall.specs.Asking.{graded_of, Asks}
 use Rattle.fuseread.specs.Reading.{read_into, reading_of, Reads}
 use Rattle.fusewrite.specs.Writing.{write_of, written_of, Writes}
@@ -58,14 +53,6 @@ refusal_of told back gave denied o n p before after e l = record { because = sam
     same : o ≡ refuses n p
     same = exact o n p (sym (denied n p) ∙ ap back e ∙ says o)
 
-abbrev of_compiled : Compiled → Outcome
-of_compiled (Filed n) = gives []
-of_compiled (NotFiled n p) = refuses n p
-
-abbrev of_fitted : Fitted → Outcome
-of_fitted (Lines n) = gives []
-of_fitted (NotLined n p) = refuses n p
-
 abbrev of_result : {A : Type 0} → Result A Numbered → Outcome
 of_result (Ok a) = gives []
 of_result (Err r) = refuses r.number r.place
@@ -73,20 +60,20 @@ of_result (Err r) = refuses r.number r.place
 -- ---- THE THEOREMS, for each call
 
 -- compile and fit: the working room is zeroed too
-pub compile_refuses : (text out room : List ℕ) (n p : ℕ) (x y : List ℕ) → Compiles text out room (NotFiled n p) x y
-    → Refusal (compiled_of text (length out) (length room)) n p out x × (y ≡ replicate (length room) 0)
-compile_refuses text out room n p x y c =
-    (refusal_of compiled_as of_compiled (λ l. refl) (λ n p. refl) (compiled_of text (length out) (length room)) n p out x c.answers c.leaves, c.clears)
+pub compile_refuses : (text out room : List ℕ) (r : Refused) (x y : List ℕ) → Compiles text out room (Err r) x y
+    → Refusal (compiled_of text (length out) (length room)) (reason_number r.reason) r.place out x × (y ≡ replicate (length room) 0)
+compile_refuses text out room r x y c =
+    (refusal_of written_of of_result (λ l. refl) (λ n p. refl) (compiled_of text (length out) (length room)) (reason_number r.reason) r.place out x c.answers c.leaves, c.clears)
 
-pub fit_refuses : (text out room : List ℕ) (n p : ℕ) (x y : List ℕ) → Fits text out room (NotLined n p) x y
-    → Refusal (fitted_of text (length out) (length room)) n p out x × (y ≡ replicate (length room) 0)
-fit_refuses text out room n p x y c =
-    (refusal_of fitted_as of_fitted (λ l. refl) (λ n p. refl) (fitted_of text (length out) (length room)) n p out x c.answers c.leaves, c.clears)
+pub fit_refuses : (text out room : List ℕ) (r : Refused) (x y : List ℕ) → Fits text out room (Err r) x y
+    → Refusal (fitted_of text (length out) (length room)) (reason_number r.reason) r.place out x × (y ≡ replicate (length room) 0)
+fit_refuses text out room r x y c =
+    (refusal_of written_of of_result (λ l. refl) (λ n p. refl) (fitted_of text (length out) (length room)) (reason_number r.reason) r.place out x c.answers c.leaves, c.clears)
 
 -- ask is lent a working room only
-pub ask_refuses : (text : List ℕ) (pin product : ℕ) (room : List ℕ) (n p : ℕ) (y : List ℕ) → Asks text pin product room (NotGraded n p) y
-    → (graded_of text pin product (length room) ≡ Refuses n p) × (y ≡ replicate (length room) 0)
-ask_refuses text pin product room n p y c = (sym c.answers, c.clears)
+pub ask_refuses : (text : List ℕ) (pin product : ℕ) (room : List ℕ) (r : Refused) (y : List ℕ) → Asks text pin product room (Err r) y
+    → (graded_of text pin product (length room) ≡ Refuses (reason_number r.reason) r.place) × (y ≡ replicate (length room) 0)
+ask_refuses text pin product room r y c = (sym c.answers, c.clears)
 
 pub read_refuses : (file map : List ℕ) (r : Refused) (x : List ℕ) → Reads file map (Err r) x → Refusal (read_into file (length map)) (reason_number r.reason) r.place map x
 read_refuses file map r x c =

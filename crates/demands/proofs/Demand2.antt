@@ -15,9 +15,10 @@ use Rattle.outputs.specs.Outputs.{map_for}
 use Rattle.agree.specs.Pins.{is_callers, pins_for, seen, seen_of}
 use Rattle.agree.proofs.Agrees.{agrees, all_pins}
 use Rattle.fusetext.specs.Outcome.{Outcome, gives, refuses, left}
-use Rattle.compilecall.specs.declared.Compiled.{Compiled}
-use Rattle.compilecall.specs.declared.Compiled.TheVariants.{File, Refused}
-use Rattle.compilecall.specs.Compiling.{compiled_as, Compiles}
+use Rattle.std.specs.Prelude.{Result, Ok, Err}
+use Rattle.basics.specs.Refusal.{Numbered}
+use Rattle.fusewrite.specs.Writing.{written_of}
+use Rattle.compilecall.specs.Compiling.{Compiles}
 use Rattle.fuseread.specs.Reading.{read_of}
 use Rattle.fusetrip.proofs.Trip.{trip}
 use Rattle.texts.specs.Calls.{compiled_of}
@@ -59,18 +60,18 @@ demand2 s file out room c =
     }
 
 -- the same of the call: what `compile` wrote is such a file
-pub compile_carries : (text out room : List ℕ) (n : ℕ) (x y : List ℕ) → Compiles text out room (File n) x y → Carries text (take n x)
+pub compile_carries : (text out room : List ℕ) (n : ℕ) (x y : List ℕ) → Compiles text out room (Ok n) x y → Carries text (take n x)
 compile_carries text out room n x y c = go (compiled_of text (length out) (length room)) refl c.answers c.leaves
   where
-    is_file : Compiled → Type 0
-    is_file (File k) = Unit {0}
-    is_file (Refused k p) = ⊥
+    is_file : Result ℕ Numbered → Type 0
+    is_file (Ok k) = Unit {0}
+    is_file (Err r) = ⊥
 
-    length_in : Compiled → ℕ
-    length_in (File k) = k
-    length_in (Refused k p) = 0
+    length_in : Result ℕ Numbered → ℕ
+    length_in (Ok k) = k
+    length_in (Err r) = 0
 
-    go : (o : Outcome) → compiled_of text (length out) (length room) ≡ o → File n ≡ compiled_as o → x ≡ left o out → Carries text (take n x)
+    go : (o : Outcome) → compiled_of text (length out) (length room) ≡ o → Ok n ≡ written_of o → x ≡ left o out → Carries text (take n x)
     go (gives f) e a l =
         subst (Carries text) (sym (ap (λ (k : ℕ). take k x) (ap length_in a) ∙ ap (take (length f)) l ∙ take_at f (drop (length f) out) (length f) refl)) (demand2 text f (length out) (length room) e)
     go (refuses k p) e a l = absurd (subst is_file a tt)

@@ -12,7 +12,8 @@ use Rattle.agree.specs.Pins.{Cycle, seen, seen_of}
 use Rattle.fusetext.specs.Outcome.{gives, refuses}
 use Rattle.fusetrip.proofs.Example.{example_file}
 use Rattle.texts.specs.Meaning.{means, circuit_in}
-use Rattle.compilecall.specs.declared.Compiled.TheVariants.{Refused}
+use Rattle.std.specs.Prelude.{Err}
+use Rattle.basics.specs.declared.refusal.Refusal.{Refusal}
 use Rattle.compilecall.specs.Compiling.{Compiles}
 use Rattle.compilecall.proofs.Refusals as refusals
 use Rattle.demands.proofs.Demand3.{same_file_same_circuit}
@@ -83,8 +84,8 @@ zero_one : ◌≡◌ {A = ℕ} 0 1 → ⊥
 zero_one e = absurd (omega arith)
 
 -- A compiler that refuses all texts: T has a file where enough memory is lent, so a refusal of it does not fit.
-pub refusing_all : (out room : List ℕ) (n p : ℕ) (x y : List ℕ) → 7154 ≤ length out → 65536 ≤ length room → Compiles module_T out room (Refused n p) x y → ⊥
-refusing_all out room n p x y h k c = refusals.refusing_all module_T out room example_file n p x y (compile_T (length out) (length room) h k) c
+pub refusing_all : (out room : List ℕ) (r : Refusal) (x y : List ℕ) → 7154 ≤ length out → 65536 ≤ length room → Compiles module_T out room (Err r) x y → ⊥
+refusing_all out room r x y h k c = refusals.refusing_all module_T out room example_file r x y (compile_T (length out) (length room) h k) c
 
 -- One file for all texts: no file carries both T and S, since a device that shows what T shows in the first cycle does not show what S shows.
 pub one_file_for_all : (file : List ℕ) → Carries module_T file → Carries module_S file → ⊥

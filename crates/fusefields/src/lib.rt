@@ -91,6 +91,8 @@ fn judge_c(s: Seen, xs: &[u8]) -> Result<Seen, Reason>
     })
 }
 
+// Kept: QF and QP are judged by two functions, since one for both would take the field to look at, the field to set and the number, and its
+// callers would say no less than these bodies do.
 // Behind QF.
 #[tactic(auto, unfolding(crate::specs::Fields::judge_qf))]
 fn judge_qf(s: Seen, xs: &[u8]) -> Result<Seen, Reason>

@@ -76,7 +76,7 @@ fn put_fields(map: &[u8], out: &mut [u8]) -> usize
 }
 
 // The whole file of a map, with the sum of bytes 2 to 3 at its end.
-fn put_file(map: &[u8], out: &mut [u8]) -> usize
+pub fn put_file(map: &[u8], out: &mut [u8]) -> usize
     requires in_bounds { 7154 ≤ length out.old }
     requires map_len { length map.now ≡ 5892 }
     requires bits { Bits map.now }

@@ -2,10 +2,11 @@
 // question; a fuse file to its map and back; a map to what the device shows.
 #![tactic(auto)]
 
-pub use askcall::{Graded, ask};
+pub use askcall::ask;
 pub use basics::refusal::{Reason, Refusal};
-pub use compilecall::{Compiled, compile};
-pub use fitcall::{Fitted, fit};
+pub use compilecall::compile;
+pub use engine::Grade;
+pub use fitcall::fit;
 pub use fuseread::read;
 pub use fusewrite::write;
 pub use gal::Answer;

@@ -4,19 +4,18 @@
 
 ghost use Rattle.std.specs.Prelude.{◌<◌};
 
-use lola::Told;
 use std::io;
 use std::io::Write;
-use trees::{CLASS_AT, PIN_AT, PLACE_AT, at};
+use trees::{CLASS_AT, Class, PIN_AT, PLACE_AT, at};
 
 // The line of element i, where it has a pin.
 fn put_element<W: Write>(to: &mut W, parts: &[u32], i: usize) -> io::Result<()>
     requires { i < 64 }
 {
-    let class = match at(parts, CLASS_AT + i) {
-        1 => "IN",
-        2 => "OUT",
-        _ => return Ok(()),
+    let class = match Class::numbered(at(parts, CLASS_AT + i)) {
+        Some(Class::In) => "IN",
+        Some(Class::Out) => "OUT",
+        Some(Class::Var) | None => return Ok(()),
     };
     let place = at(parts, PLACE_AT + i);
     let pin = at(parts, PIN_AT + i);
@@ -34,8 +33,8 @@ fn put_elements<W: Write>(to: &mut W, parts: &[u32]) -> io::Result<()> {
 fn answer<W: Write>(to: &mut W, text: &[u8]) -> io::Result<()> {
     let mut parts = [0u32; 2588];
     match lola::front(text, &mut parts) {
-        Told::Fine => put_elements(to, &parts),
-        Told::Refused { number, place } => writeln!(to, "{number} {place}"),
+        Ok(()) => put_elements(to, &parts),
+        Err(refusal) => writeln!(to, "{} {}", refusal.reason.number(), refusal.place),
     }
 }
 

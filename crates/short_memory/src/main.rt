@@ -4,7 +4,7 @@
 
 ghost use Rattle.std.specs.Prelude.{ℕ, ◌≤◌};
 
-use kinvlopt::{Compiled, Fitted, Graded, Refusal};
+use kinvlopt::{Grade, Refusal};
 use std::io::Write;
 use std::{fmt, io};
 
@@ -13,53 +13,23 @@ use std::{fmt, io};
 enum Told {
     Bytes(usize),
     Grade(Grade),
-    Refused { number: u8, place: usize },
-}
-
-#[derive(Clone, Copy)]
-enum Grade {
-    NoImplicant,
-    Implicant,
-    Prime,
-}
-
-impl From<Compiled> for Told {
-    fn from(compiled: Compiled) -> Told {
-        match compiled {
-            Compiled::File { len } => Told::Bytes(len),
-            Compiled::Refused { number, place } => Told::Refused { number, place },
-        }
-    }
-}
-
-impl From<Fitted> for Told {
-    fn from(fitted: Fitted) -> Told {
-        match fitted {
-            Fitted::Lines { len } => Told::Bytes(len),
-            Fitted::Refused { number, place } => Told::Refused { number, place },
-        }
-    }
+    Refused(Refusal),
 }
 
 impl From<Result<usize, Refusal>> for Told {
-    fn from(written: Result<usize, Refusal>) -> Told {
-        match written {
+    fn from(said: Result<usize, Refusal>) -> Told {
+        match said {
             Ok(len) => Told::Bytes(len),
-            Err(refusal) => Told::Refused {
-                number: refusal.reason.number(),
-                place: refusal.place,
-            },
+            Err(refusal) => Told::Refused(refusal),
         }
     }
 }
 
-impl From<Graded> for Told {
-    fn from(graded: Graded) -> Told {
+impl From<Result<Grade, Refusal>> for Told {
+    fn from(graded: Result<Grade, Refusal>) -> Told {
         match graded {
-            Graded::NoImplicant => Told::Grade(Grade::NoImplicant),
-            Graded::Implicant => Told::Grade(Grade::Implicant),
-            Graded::Prime => Told::Grade(Grade::Prime),
-            Graded::Refused { number, place } => Told::Refused { number, place },
+            Ok(grade) => Told::Grade(grade),
+            Err(refusal) => Told::Refused(refusal),
         }
     }
 }
@@ -71,7 +41,9 @@ impl fmt::Display for Told {
             Told::Grade(Grade::NoImplicant) => write!(f, "no implicant"),
             Told::Grade(Grade::Implicant) => write!(f, "implicant"),
             Told::Grade(Grade::Prime) => write!(f, "prime"),
-            Told::Refused { number, place } => write!(f, "refused {number} {place}"),
+            Told::Refused(refusal) => {
+                write!(f, "refused {} {}", refusal.reason.number(), refusal.place)
+            }
         }
     }
 }

@@ -7,7 +7,7 @@ ghost use Rattle.fusetext.specs.Put.{Wrote};
 ghost use Rattle.textverbs.specs.Answers.{compile_answer, fit_answer, ask_answer};
 
 use fusetext::field::put_text;
-use kinvlopt::{Compiled, Fitted, Graded};
+use kinvlopt::Grade;
 
 // A text's fuse file, or its refusal's line.
 pub fn compile_answer(text: &[u8], out: &mut [u8], room: &mut [u8]) -> usize
@@ -16,10 +16,9 @@ pub fn compile_answer(text: &[u8], out: &mut [u8], room: &mut [u8]) -> usize
     ensures wrote { Wrote out.old 0 (compile_answer text.now) out.new result }
     ensures room_after { room.new ≡ replicate (length room.old) 0 }
 {
-    let compiled = kinvlopt::compile(text, out, room);
-    match compiled {
-        Compiled::File { len } => len,
-        Compiled::Refused { number, place } => lines::put_refusal(number, place, out, 0),
+    match kinvlopt::compile(text, out, room) {
+        Ok(len) => len,
+        Err(refusal) => lines::put_refused(refusal, out, 0),
     }
 }
 
@@ -30,10 +29,9 @@ pub fn fit_answer(text: &[u8], out: &mut [u8], room: &mut [u8]) -> usize
     ensures wrote { Wrote out.old 0 (fit_answer text.now) out.new result }
     ensures room_after { room.new ≡ replicate (length room.old) 0 }
 {
-    let fitted = kinvlopt::fit(text, out, room);
-    match fitted {
-        Fitted::Lines { len } => len,
-        Fitted::Refused { number, place } => lines::put_refusal(number, place, out, 0),
+    match kinvlopt::fit(text, out, room) {
+        Ok(len) => len,
+        Err(refusal) => lines::put_refused(refusal, out, 0),
     }
 }
 
@@ -44,11 +42,10 @@ pub fn ask_answer(text: &[u8], pin: usize, product: usize, out: &mut [u8], room:
     ensures wrote { Wrote out.old 0 (ask_answer text.now pin product) out.new result }
     ensures room_after { room.new ≡ replicate (length room.old) 0 }
 {
-    let graded = kinvlopt::ask(text, pin, product, room);
-    match graded {
-        Graded::NoImplicant => put_text(b"0\n", out, 0),
-        Graded::Implicant => put_text(b"1\n", out, 0),
-        Graded::Prime => put_text(b"2\n", out, 0),
-        Graded::Refused { number, place } => lines::put_refusal(number, place, out, 0),
+    match kinvlopt::ask(text, pin, product, room) {
+        Ok(Grade::NoImplicant) => put_text(b"0\n", out, 0),
+        Ok(Grade::Implicant) => put_text(b"1\n", out, 0),
+        Ok(Grade::Prime) => put_text(b"2\n", out, 0),
+        Err(refusal) => lines::put_refused(refusal, out, 0),
     }
 }
