@@ -53,9 +53,6 @@ module _ (s : List ℕ) (st e : ℕ) where
   pub back_last : (at : ℕ) (r : Outcome (Unit {0}) ℕ) → back_turn s st e 0 at tt ≡ last r → back at ≡ r
   back_last at r q = repeat_last s (back_turn s st e) back-far 0 at tt r q
 
-  pub back_falls : (at n : ℕ) → back_turn s st e 0 at tt ≡ more 0 n tt → length s - n < length s - at
-  back_falls at n q = repeat_falls s (back_turn s st e) back-far 0 0 at n tt tt q
-
   -- by the next word: the walk stops where no word is before the name, and finds the name where the word has its spelling
   module _ (at k q v : ℕ) (c : Cursor) (w : Word k q v c ≡ next_word s at) where
     pub back_ended : eqb k 0 ≡ true → is_back (back at) ≡ false
