@@ -1,3 +1,2 @@
-pub mod Laws
 pub mod Once
 pub mod Refusals

@@ -1,4 +1,4 @@
-use Rattle.compilecall.proofs.Laws.{map_length, map_bits}
+use Rattle.calls.proofs.Maps.{map_length, map_bits}
 use Rattle.compilecall.proofs.FuseFileSays.put.Goals as goal
 
 pub put_file-requires : goal.put_file-requires

@@ -1,4 +1,4 @@
--- The map of a module is one. Assumes nothing.
+-- What a call says bytes of is a map. Assumes nothing.
 use mathlib.Core.Path.{◌≡◌, ap, ◌∙◌}
 use mathlib.Core.Bool.{true}
 use mathlib.Core.List.{List}
