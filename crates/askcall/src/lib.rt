@@ -13,12 +13,7 @@ use basics::refusal::{Reason, Refusal};
 use engine::Grade;
 
 // Stage 6 and the question, of elements that stages 1 to 5 let pass.
-fn ask_parts(
-    parts: &[u32],
-    pin: usize,
-    product: usize,
-    room: &mut [u8],
-) -> Result<Grade, Refusal>
+fn ask_parts(parts: &[u32], pin: usize, product: usize, room: &mut [u8]) -> Result<Grade, Refusal>
     requires parts_value { stage_five (elements_of parts.now) ≡ fine }
     requires in_bounds { 65536 ≤ length room.old }
     ensures { Does (questioned pin product (unless (stage_six (elements_of parts.now)) parts.now)) room.old result room.new }

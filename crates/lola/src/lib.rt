@@ -12,9 +12,6 @@ use words::Cursor;
 // How many bytes a text may have.
 const LONGEST: usize = 32768;
 
-// How many levels of nesting there are.
-const LEVELS: usize = 32;
-
 // Stages 4 and 5: the statements from a place on, among the names lent, and then all names.
 #[tactic(auto, using(std::proofs::lemmas::Grind::common_steps), unfolding(texts::specs::Stages::fourth, texts::specs::Stages::fifth))]
 fn carry_out(
@@ -25,7 +22,7 @@ fn carry_out(
 ) -> Result<(), Refusal>
     ensures { seen_front result parts.new ≡ fourth scope.entry.text.now from.at scope.entry.names.now (parts.old, count.old) }
 {
-    unroll::statements(scope, parts, count, from, LEVELS)?;
+    unroll::statements(scope, parts, count, from, grammar::level_limit())?;
     circuit::judge_all(parts)
 }
 
