@@ -1,22 +1,22 @@
 -- What the calls did, stage by stage, as the definitions say it. Assumes nothing.
 use mathlib.Core.Path.{◌≡◌, refl, sym, ap, ◌∙◌, subst}
-use mathlib.Core.Bool.{Bool, true, false}
+use mathlib.Core.Bool.{Bool}
 use mathlib.Core.List.{List}
 use Prim.Native.Nat.{ℕ, ◌≤◌, ◌<◌}
 use lib.ListN.{length, replicate}
 use borrow.Author.Tests.{le-leb, lt-leb}
-use Rattle.std.specs.Prelude.{Result, Ok, Err}
+use Rattle.std.specs.Prelude.{Result, Err}
 use Rattle.basics.specs.Choice.{pick}
 use Rattle.basics.specs.Refusal.{number_of}
 use Rattle.basics.specs.declared.refusal.Reason.TheVariants.{Memory}
 use Rattle.basics.specs.declared.refusal.Refusal.{Refusal}
 use Rattle.engine.specs.declared.Grade.{Grade}
-use Rattle.trees.specs.Layout.{Elements, elements_of}
+use Rattle.trees.specs.Layout.{elements_of}
 use Rattle.circuit.specs.StageFive.{Verdict}
 use Rattle.circuit.specs.StageFive.Verdict.{fine, refused as faulty}
 use Rattle.outputs.specs.Outputs.{stage_six}
 use Rattle.question.specs.Question.Asked.{Refused as Refuses}
-use Rattle.question.specs.Question.{Asked, seen, asked}
+use Rattle.question.specs.Question.{seen, asked}
 use Rattle.texts.specs.Stages.{Front, stays, refused, unless, front_of, whole_of}
 use Rattle.texts.proofs.Calling.{zeros_length, zeros_twice, whole_stays, whole_refused}
 use Rattle.askcall.specs.Asking.{questioned, graded_of, Does, Asks}

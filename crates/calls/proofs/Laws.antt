@@ -1,12 +1,12 @@
 -- What a call that says bytes of its map did, as the definitions say it. Assumes nothing.
-use mathlib.Core.Path.{◌≡◌, refl, sym, ap, ◌∙◌}
+use mathlib.Core.Path.{◌≡◌, sym, ap, ◌∙◌}
 use mathlib.Core.List.{List}
 use Prim.Native.Nat.{ℕ}
 use lib.ListN.{length, replicate}
 use native.Mathlib.Nat.{zero-add}
-use Rattle.std.specs.Prelude.{Result, Ok, Err}
+use Rattle.std.specs.Prelude.{Result, Ok}
 use Rattle.basics.specs.declared.refusal.Refusal.{Refusal}
-use Rattle.basics.specs.Refusal.{number_of, answered}
+use Rattle.basics.specs.Refusal.{answered}
 use Rattle.basics.proofs.Refusals.{answered_once}
 use Rattle.trees.specs.Layout.{elements_of}
 use Rattle.circuit.specs.StageFive.{stage_five}
@@ -16,7 +16,7 @@ use Rattle.outmap.specs.Sixth.{after, facts_of}
 use Rattle.outmap.proofs.Turns.{after_new}
 use Rattle.fusetext.specs.Put.{Wrote}
 use Rattle.fusetext.proofs.Puts.{put_front}
-use Rattle.fusetext.specs.Outcome.{Outcome, gives, refuses}
+use Rattle.fusetext.specs.Outcome.{Outcome}
 use Rattle.texts.specs.Stages.{unless}
 use Rattle.texts.specs.Calls.{written, Does}
 use Rattle.texts.proofs.Calling.{does_once, says_fits}

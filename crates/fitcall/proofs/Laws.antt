@@ -2,9 +2,7 @@
 use mathlib.Core.Path.{◌≡◌, sym, ap, ap₂, ◌∙◌, subst}
 use mathlib.Core.List.{List}
 use Prim.Native.Nat.{ℕ}
-use lib.ListN.{length}
 use Rattle.trees.specs.Layout.{elements_of}
-use Rattle.outmap.specs.Sixth.{facts_of}
 use Rattle.agree.proofs.Reading.{few_read}
 use Rattle.fusetext.specs.Put.{Wrote}
 use Rattle.fitlines.specs.Lines.{fit_lines, lines_by}

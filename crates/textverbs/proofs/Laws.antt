@@ -1,5 +1,5 @@
 -- What is printed for a text, by what the calls answered. Assumes nothing.
-use mathlib.Core.Path.{◌≡◌, refl, sym, ap, ◌∙◌}
+use mathlib.Core.Path.{◌≡◌, sym, ap, ◌∙◌}
 use mathlib.Core.Bool.{Bool}
 use mathlib.Core.List.{List}
 use Prim.Native.Nat.{ℕ, ◌≤◌}
@@ -10,7 +10,7 @@ use Rattle.basics.specs.Choice.{pick}
 use Rattle.basics.specs.Refusal.{number_of, answered}
 use Rattle.basics.specs.declared.refusal.Refusal.{Refusal}
 use Rattle.engine.specs.declared.Grade.{Grade}
-use Rattle.fusetext.specs.Outcome.{Outcome, gives, refuses, left}
+use Rattle.fusetext.specs.Outcome.{Outcome, left}
 use Rattle.fusetext.specs.Put.{Wrote}
 use Rattle.fusewrite.specs.Writing.{written_of}
 use Rattle.lines.specs.Decimal.{refusal_line}
