@@ -7,7 +7,7 @@ ghost use Rattle.std.specs.IoError.{error_kind};
 ghost use Rattle.answers.specs.Line.{kept};
 
 use std::io;
-use std::io::{ErrorKind, Read, Write};
+use std::io::{ErrorKind, Read};
 
 // One read into the room; nothing is taken where it is interrupted.
 fn read_some<R: Read>(from: &mut R, room: &mut [u8]) -> io::Result<Option<usize>>
@@ -41,12 +41,12 @@ pub fn read_full<R: Read>(from: &mut R, room: &mut [u8]) -> io::Result<usize>
     Ok(n)
 }
 
-// Takes what is still to be read, up to 65,536 bytes, and answers how many.
+// Takes what is still to be read, up to 8,192 bytes, and answers how many.
 fn more<R: Read>(from: &mut R) -> io::Result<usize>
-    ensures within { IfOk result (λ n. n ≤ 65536) }
+    ensures within { IfOk result (λ n. n ≤ 8192) }
     ensures retried { IfErr result (λ e. error_kind e ≢ ErrorKind.Interrupted) }
 {
-    let mut kept = [0u8; 65536];
+    let mut kept = [0u8; 8192];
     read_full(from, &mut kept)
 }
 
@@ -106,21 +106,4 @@ pub fn read_line<R: Read>(from: &mut R, buf: &mut [u8]) -> io::Result<Line>
         n = keep(buf, n, one[0]);
     }
     Ok(Line::Last(n))
-}
-
-// Reads a text, up to 32,769 bytes of it, and prints what the call answers: so many first bytes of the output that it is lent beside a room.
-pub fn answer_text<R: Read, W: Write, F: Fn(&[u8], &mut [u8; 7154], &mut [u8; 65536]) -> usize>(
-    from: &mut R,
-    to: &mut W,
-    call: F,
-) -> io::Result<()>
-    requires callable { F.IsAlwaysCallable call }
-    requires within { (text : _) (out : _) (room : _) (n : _) (out_after : _) (room_after : _) → F.post call text out room n out_after room_after → n ≤ 7154 }
-{
-    let mut text = [0u8; 32769];
-    let mut out = [0u8; 7154];
-    let mut room = [0u8; 65536];
-    let n = read_full(from, &mut text)?;
-    let k = call(&text[..n], &mut out, &mut room);
-    to.write_all(&out[..k])
 }
