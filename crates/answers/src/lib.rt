@@ -2,12 +2,19 @@
 // other error of a read is handed on.
 #![tactic(auto)]
 
-ghost use Rattle.std.specs.Prelude.{◌≡◌, ◌≢◌, ℕ, ◌≤◌, length, IfOk, IfErr, IfSome};
+ghost use Rattle.std.specs.Prelude.{◌≡◌, ◌≢◌, ℕ, ◌≤◌, length, IfOk, IfErr, IfSome, IsTrue, ◌↔◌};
 ghost use Rattle.std.specs.IoError.{error_kind};
 ghost use Rattle.answers.specs.Line.{kept};
 
 use std::io;
-use std::io::{ErrorKind, Read};
+use std::io::{Error, ErrorKind, Read};
+
+// Whether a read that failed so may be tried again.
+fn is_interrupted(e: &Error) -> bool
+    ensures { IsTrue result ↔ (error_kind e.now ≡ ErrorKind.Interrupted) }
+{
+    e.kind() == ErrorKind::Interrupted
+}
 
 // One read into the room; nothing is taken where it is interrupted.
 fn read_some<R: Read>(from: &mut R, room: &mut [u8]) -> io::Result<Option<usize>>
@@ -16,7 +23,7 @@ fn read_some<R: Read>(from: &mut R, room: &mut [u8]) -> io::Result<Option<usize>
 {
     match from.read(room) {
         Ok(n) => Ok(Some(n)),
-        Err(e) if e.kind() == ErrorKind::Interrupted => Ok(None),
+        Err(e) if is_interrupted(&e) => Ok(None),
         Err(e) => Err(e),
     }
 }

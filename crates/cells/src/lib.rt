@@ -4,10 +4,11 @@
 ghost use Rattle.std.specs.Prelude.{◌≡◌, ◌+◌, ◌<◌, ◌≤◌, leb, ltb, length, get_or, take};
 ghost use Rattle.basics.specs.Choice.{bit, pick};
 ghost use Rattle.cells.specs.Map.{used, clocked, cell_at, row_at, row_fuse, s0_fuse, s1_fuse, switch_fuse, map_of, Begun, Written};
-ghost use Rattle.cells.specs.Kind.{numbers};
+ghost use Rattle.cells.specs.Kind.{kind_of, kinds_of, numbers};
 ghost use Rattle.cells.specs.Counts.{picks};
 
 use rows::{Product, Row};
+use std::array;
 
 // What a cell is used for.
 #[derive(Clone, Copy, Debug, PartialEq, Eq)]
@@ -27,11 +28,25 @@ pub struct Cells {
     pub s0s: [u8; 10],
 }
 
+// A cell's kind by its number: 0 is unused, 2 registered, and any other number combinational.
+impl From<u8> for Kind {
+    ghost from_gives = { λ n k. k ≡ kind_of n };
+
+    #[tactic(auto, using(std::proofs::lemmas::Grind::common_steps), unfolding(crate::specs::Kind::kind_of))]
+    fn from(number: u8) -> Kind {
+        match number {
+            0 => Kind::Unused,
+            2 => Kind::Registered,
+            _ => Kind::Combinational,
+        }
+    }
+}
+
 impl Cells {
     // Writes the whole map.
-    pub fn write_map(&self, map: &mut [u8])
+    pub fn write_map(self, map: &mut [u8])
         requires { length map.old ≡ 5892 }
-        ensures { map.new ≡ map_of self.now.masks self.now.counts (numbers self.now.kinds) self.now.s0s }
+        ensures { map.new ≡ map_of self.masks self.counts (numbers self.kinds) self.s0s }
     {
         self.write_rows(map);
         for i in 5808..5892 {
@@ -40,9 +55,9 @@ impl Cells {
     }
 
     // Writes all rows.
-    fn write_rows(&self, map: &mut [u8])
+    fn write_rows(self, map: &mut [u8])
         requires { length map.old ≡ 5892 }
-        ensures { Begun (row_fuse self.now.masks self.now.counts (numbers self.now.kinds)) map.new 5808 }
+        ensures { Begun (row_fuse self.masks self.counts (numbers self.kinds)) map.new 5808 }
     {
         for r in 0..132 {
             write_row(map, r, &self.row_at(r));
@@ -51,9 +66,9 @@ impl Cells {
 
     // Row r of the map.
     #[tactic(auto, using(crate::proofs::Writing::few_cells, crate::proofs::Writing::row_begins, crate::proofs::Writing::row_near), unfolding(crate::specs::Map::row_at, crate::specs::Map::cell_row))]
-    fn row_at(&self, r: usize) -> Row
+    fn row_at(self, r: usize) -> Row
         requires { r < 132 }
-        ensures { result.fuses ≡ row_at self.now.masks self.now.counts (numbers self.now.kinds) r }
+        ensures { result.fuses ≡ row_at self.masks self.counts (numbers self.kinds) r }
     {
         if r == 0 || r == 131 {
             return Row::dead();
@@ -107,6 +122,34 @@ impl Cells {
             1
         }
     }
+}
+
+// Ten kinds by their numbers.
+fn kinds_of(numbers: [u8; 10]) -> [Kind; 10]
+    ensures { result ≡ kinds_of numbers }
+{
+    array::from_fn(|k| Kind::from(numbers[k]))
+}
+
+// Writes the whole map of ten cells, given as four lists, their kinds by number.
+#[tactic(auto, using(std::proofs::lemmas::Grind::common_steps, crate::proofs::Numbers::map_by_kinds))]
+pub fn write_map(
+    all: [[Product; 16]; 10],
+    counts: [u8; 10],
+    kinds: [u8; 10],
+    s0s: [u8; 10],
+    map: &mut [u8],
+)
+    requires { length map.old ≡ 5892 }
+    ensures { map.new ≡ map_of all counts kinds s0s }
+{
+    let cells = Cells {
+        masks: all,
+        counts,
+        kinds: kinds_of(kinds),
+        s0s,
+    };
+    cells.write_map(map);
 }
 
 // The cell that row r belongs to.

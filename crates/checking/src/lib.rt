@@ -44,7 +44,12 @@ fn constant_turn(text: &[u8], from: Cursor) -> Result<Turn, Refusal>
     if word.kind != Kind::Name {
         return Ok(Turn::Last(from));
     }
-    let end = phrases::give(text, Kind::Semicolon, word.next, grammar::level_limit())?;
+    let end = phrases::give(
+        text,
+        Kind::Semicolon as u8,
+        word.next,
+        grammar::level_limit(),
+    )?;
     Ok(Turn::More(end))
 }
 
@@ -82,8 +87,8 @@ fn one_type(text: &[u8], from: Cursor) -> Result<Cursor, Refusal>
         Kind::Bit => Ok(word.next),
         Kind::OpenSquare => {
             let length = phrases::within(text, word.start, word.next, grammar::level_limit())?;
-            let closed = phrases::expect(text, Kind::CloseSquare, length)?;
-            phrases::expect(text, Kind::Bit, closed)
+            let closed = phrases::past(text, Kind::CloseSquare, length)?;
+            phrases::past(text, Kind::Bit, closed)
         }
         _ => Err(Refusal::new(Reason::Grammar, word.start)),
     }
@@ -94,9 +99,9 @@ fn one_type(text: &[u8], from: Cursor) -> Result<Cursor, Refusal>
 fn list_type(text: &[u8], from: Cursor) -> Result<Cursor, Refusal>
     ensures { seen_end result ≡ type_of checks blank text.now from.at tt }
 {
-    let colon = phrases::expect(text, Kind::Colon, from)?;
+    let colon = phrases::past(text, Kind::Colon, from)?;
     let end = one_type(text, colon)?;
-    phrases::expect(text, Kind::Semicolon, end)
+    phrases::past(text, Kind::Semicolon, end)
 }
 
 // A list of names of a class, of one type.
@@ -173,11 +178,11 @@ fn begin(text: &[u8], from: Cursor) -> Result<Body, Refusal>
 fn heading(text: &[u8], from: Cursor) -> Result<Head, Refusal>
     ensures { seen_head result ≡ headed checks blank text.now from.at tt }
 {
-    let name = phrases::expect(text, Kind::Module, from)?.next(text)?;
+    let name = phrases::past(text, Kind::Module, from)?.next(text)?;
     if name.kind != Kind::Name {
         return Err(Refusal::new(Reason::Grammar, name.start));
     }
-    let next = phrases::expect(text, Kind::Semicolon, name.next)?;
+    let next = phrases::past(text, Kind::Semicolon, name.next)?;
     Ok(Head { name, next })
 }
 
@@ -201,10 +206,10 @@ fn name_again(text: &[u8], name: Word, from: Cursor) -> Result<Cursor, Refusal>
 fn ending(text: &[u8], name: Word, from: Cursor) -> Result<Cursor, Refusal>
     ensures { seen_end result ≡ ended checks blank text.now name.start name.next.at from.at tt }
 {
-    let end = phrases::expect(text, Kind::End, from)?;
+    let end = phrases::past(text, Kind::End, from)?;
     let named = name_again(text, name, end)?;
-    let dot = phrases::expect(text, Kind::Dot, named)?;
-    phrases::expect(text, Kind::TextEnd, dot)
+    let dot = phrases::past(text, Kind::Dot, named)?;
+    phrases::past(text, Kind::TextEnd, dot)
 }
 
 // All that follows the heading.

@@ -304,11 +304,11 @@ fn fuse_sum(map: &[u8; 5892]) -> u16 {
     sum
 }
 
-// The fuse sum of the map of these cells, in four hex digits.
+// The fuse sum of the map of these cells, in four hex digits, and the batch's last line.
 fn put_sum<W: Write>(to: &mut W, cells: &[Option<Cell>; 10]) -> io::Result<()> {
     let mut map = [0; 5892];
     written_cells(cells).write_map(&mut map);
-    writeln!(to, "{:04X}", fuse_sum(&map))
+    write!(to, "{:04X}\n.\n", fuse_sum(&map))
 }
 
 // One batch; what comes behind it.
@@ -321,9 +321,8 @@ fn batch<'a, W: Write>(to: &mut W, text: &'a [u8], room: &mut [u8; 65536]) -> io
             put_cells(to, &cells)?;
             put_sum(to, &cells)?;
         }
-        Err(pin) => writeln!(to, "12 {pin}")?,
+        Err(pin) => write!(to, "12 {pin}\n.\n")?,
     }
-    writeln!(to, ".")?;
     Ok(next_line(skip(text, n)))
 }
 

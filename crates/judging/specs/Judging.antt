@@ -2,11 +2,10 @@
 -- 'The language we take' and refusals 3, 4, 5; decisions 14 to 16, 19, 20.
 use Rattle.std.specs.Prelude.{ℕ, ◌+◌, ◌-◌, List, eqb, ltb, Option, Some, None, Result, Ok, Err, ℤ, pos, negsuc}
 use Rattle.basics.specs.Choice.{pick}
-use Rattle.integers.specs.Integers.{num, Answer, held, broken, kind_of, combined}
+use Rattle.integers.specs.Integers.{num, Answer, held, broken, combined}
 use Rattle.names.specs.Names.{Seen, known, unknown, number_of, looked_up}
 use Rattle.basics.specs.Refusal.{number_of as reason_of}
 use Rattle.basics.specs.declared.refusal.Refusal.{Refusal}
-use Rattle.integers.specs.declared.Operator.{Operator}
 use Rattle.judging.specs.declared.Sort.{Sort}
 use Rattle.judging.specs.declared.Sort.TheVariants.{Checked, Number, Signal, Uncounted}
 use Rattle.judging.specs.declared.Judged.{Judged}
@@ -15,12 +14,12 @@ use Rattle.judging.specs.declared.Base.{Base}
 use Rattle.judging.specs.declared.Meaning.{Meaning as Meant}
 use Rattle.judging.specs.declared.Meaning.TheVariants as told
 
--- the number of each sort
+-- the number of each sort: from 3 on all are signals that are not counted
 abbrev pub sort_of : Sort → ℕ
 sort_of Checked = 0
 sort_of Number = 1
 sort_of Signal = 2
-sort_of Uncounted = 3
+sort_of (Uncounted n) = n + 3
 
 -- a number, a node of a signal, or a refusal's number and place
 pub data Verdict : Type 0 where
@@ -53,11 +52,6 @@ abbrev pub meant : Option Meant → Meaning
 meant (Some (told.Value v)) = valued (num v)
 meant (Some (told.Signal b)) = signal b.first b.size
 meant None = nothing
-
--- the operator on numbers that the code found
-abbrev pub combined_by : Option Operator → ℤ → ℤ → Answer
-combined_by (Some o) a b = combined (kind_of o) a b
-combined_by None a b = broken
 
 -- what the names that stand there say of a name: kind 2 is a signal, any other a number
 abbrev pub meaning_on : Seen → Meaning

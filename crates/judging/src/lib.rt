@@ -2,25 +2,39 @@
 // the count says how many are there.
 #![tactic(auto)]
 
-ghost use Rattle.std.specs.Prelude.{◌≡◌, Ok, ℤ};
+ghost use Rattle.std.specs.Prelude.{◌≡◌, Ok};
 ghost use Rattle.words.specs.Kinds.{code};
-ghost use Rattle.integers.specs.Integers.{num, combined};
+ghost use Rattle.integers.specs.Integers.{num};
 ghost use Rattle.grammar.specs.Outcome.{built_at};
 ghost use Rattle.grammar.specs.Grammar.{is_sum, is_product, index_sort, part_sort};
-ghost use Rattle.judging.specs.Judging.{sort_of, judged, opening, meant, combined_by, meaning_of, mark_of, literal_of, logic_of, plain_of, opened_of, element_of, operator_of};
+ghost use Rattle.judging.specs.Judging.{sort_of, judged, opening, meant, meaning_of, mark_of, literal_of, logic_of, plain_of, opened_of, element_of, operator_of};
 ghost use Rattle.judging.specs.Reading.{seen, done, dotted_of, pointed_of};
 
 use basics::refusal::{Reason, Refusal};
-use integers::{Num, Operator};
+use integers::Num;
 use words::{Cursor, Kind};
 
-// What a part is read for: only to be checked, a number, a signal, or a signal that is not counted.
+// What a part is read for: only to be checked, a number, a signal, or a signal that is not counted, of which there are as many sorts as numbers from 3 on.
 #[derive(Clone, Copy, Debug, PartialEq, Eq)]
 pub enum Sort {
-    Checked = 0,
-    Number = 1,
-    Signal = 2,
-    Uncounted = 3,
+    Checked,
+    Number,
+    Signal,
+    Uncounted(u8),
+}
+
+// The sort that has a number.
+impl From<u8> for Sort {
+    ghost from_gives = { λ n sort. sort_of sort ≡ n };
+
+    fn from(number: u8) -> Sort {
+        match number {
+            0 => Sort::Checked,
+            1 => Sort::Number,
+            2 => Sort::Signal,
+            n => Sort::Uncounted(n - 3),
+        }
+    }
 }
 
 // Kept: nodes are numbers here, as they stand in the lent room (memory is fixed), and the elements follow the operators.
@@ -120,7 +134,7 @@ impl Sort {
         ensures { sort_of result ≡ part_sort (sort_of self) }
     {
         match self {
-            Sort::Number => Sort::Uncounted,
+            Sort::Number => Sort::Uncounted(0),
             _ => self,
         }
     }
@@ -134,7 +148,7 @@ pub fn mark(sort: Sort, code: u32, place: usize) -> Result<Judged, Refusal>
     match sort {
         Sort::Signal => Ok(Judged::Node(code)),
         Sort::Number => Err(Refusal::new(Reason::Name, place)),
-        Sort::Checked | Sort::Uncounted => Ok(Judged::Number(Num::Up(0))),
+        Sort::Checked | Sort::Uncounted(_) => Ok(Judged::Number(Num::Up(0))),
     }
 }
 
@@ -145,7 +159,7 @@ pub fn literal(sort: Sort, place: usize, value: u16) -> Result<Judged, Refusal>
     match sort {
         Sort::Number => Ok(Judged::Number(Num::from(value))),
         Sort::Checked => Ok(Judged::Number(Num::Up(0))),
-        Sort::Signal | Sort::Uncounted => Err(Refusal::new(Reason::Name, place)),
+        Sort::Signal | Sort::Uncounted(_) => Err(Refusal::new(Reason::Name, place)),
     }
 }
 
@@ -194,22 +208,6 @@ pub fn element(
     }
 }
 
-// The operator on numbers that a word is.
-#[tactic(auto, using(std::proofs::lemmas::Grind::common_steps), unfolding(integers::specs::Integers::combined))]
-fn operator(kind: Kind) -> Option<Operator>
-    ensures { (a b : ℤ) → combined_by result a b ≡ combined (code kind) a b }
-{
-    match kind {
-        Kind::Plus => Some(Operator::Plus),
-        Kind::Minus => Some(Operator::Minus),
-        Kind::Star => Some(Operator::Times),
-        Kind::Div => Some(Operator::Divide),
-        Kind::Mod => Some(Operator::Modulo),
-        Kind::Caret => Some(Operator::Power),
-        _ => None,
-    }
-}
-
 // An operator at a place, between two operands.
 #[tactic(auto, using(std::proofs::lemmas::Grind::common_steps), unfolding(crate::specs::Judging::operator_of))]
 pub fn operate(sort: Sort, kind: Kind, place: usize, a: Num, b: Num) -> Result<Judged, Refusal>
@@ -217,7 +215,7 @@ pub fn operate(sort: Sort, kind: Kind, place: usize, a: Num, b: Num) -> Result<J
 {
     match (sort, kind) {
         (Sort::Checked, _) => Ok(Judged::Number(Num::Up(0))),
-        (Sort::Number, _) => match operator(kind).and_then(|o| integers::combine(o, a, b)) {
+        (Sort::Number, _) => match integers::combine(kind as u8, a, b) {
             Some(n) => Ok(Judged::Number(n)),
             None => Err(Refusal::new(Reason::Arithmetic, place)),
         },

@@ -52,34 +52,41 @@ fn indexed(text: &[u8], start: usize, end: Cursor, depth: usize) -> Result<Curso
     Ok(read.next)
 }
 
-// The word of a kind.
-#[tactic(auto, using(std::proofs::lemmas::Grind::common_steps, words::proofs::Codes::code_other), unfolding(grammar::specs::Grammar::closed))]
-pub fn expect(text: &[u8], kind: Kind, from: Cursor) -> Result<Cursor, Refusal>
-    ensures { seen_end result ≡ must text.now (code kind) from.at tt }
+// The word of the kind that has a number.
+#[tactic(auto, using(std::proofs::lemmas::Grind::common_steps), unfolding(grammar::specs::Grammar::closed))]
+pub fn expect(text: &[u8], kind: u8, from: Cursor) -> Result<Cursor, Refusal>
+    ensures { seen_end result ≡ must text.now kind from.at tt }
 {
     let word = from.next(text)?;
-    if word.kind == kind {
+    if word.kind as u8 == kind {
         Ok(word.next)
     } else {
         Err(Refusal::new(Reason::Grammar, word.start))
     }
 }
 
-// An expression and the word of a kind.
+// The word of a kind.
+pub fn past(text: &[u8], kind: Kind, from: Cursor) -> Result<Cursor, Refusal>
+    ensures { seen_end result ≡ must text.now (code kind) from.at tt }
+{
+    expect(text, kind as u8, from)
+}
+
+// An expression and the word of the kind that has a number.
 #[tactic(auto, using(std::proofs::lemmas::Grind::common_steps), unfolding(grammar::specs::Modules::up_to))]
-fn up_to(text: &[u8], kind: Kind, from: Cursor, depth: usize) -> Result<Cursor, Refusal>
-    ensures { seen_end result ≡ up_to checks blank text.now 0 depth (code kind) from.at tt }
+fn up_to(text: &[u8], kind: u8, from: Cursor, depth: usize) -> Result<Cursor, Refusal>
+    ensures { seen_end result ≡ up_to checks blank text.now 0 depth kind from.at tt }
 {
     let end = whole(text, from, depth)?;
     expect(text, kind, end)
 }
 
-// `:=`, an expression and the word of a kind.
+// `:=`, an expression and the word of the kind that has a number.
 #[tactic(auto, using(std::proofs::lemmas::Grind::common_steps), unfolding(grammar::specs::Modules::given))]
-pub fn give(text: &[u8], kind: Kind, from: Cursor, depth: usize) -> Result<Cursor, Refusal>
-    ensures { seen_end result ≡ given checks blank text.now 0 depth (code kind) from.at tt }
+pub fn give(text: &[u8], kind: u8, from: Cursor, depth: usize) -> Result<Cursor, Refusal>
+    ensures { seen_end result ≡ given checks blank text.now 0 depth kind from.at tt }
 {
-    let value = expect(text, Kind::Becomes, from)?;
+    let value = past(text, Kind::Becomes, from)?;
     up_to(text, kind, value, depth)
 }
 
@@ -216,8 +223,8 @@ fn for_loop(text: &[u8], place: usize, from: Cursor, depth: usize) -> Result<Cur
     if name.kind != Kind::Name {
         return Err(Refusal::new(Reason::Grammar, name.start));
     }
-    let first = give(text, Kind::Range, name.next, depth - 1)?;
-    let last = up_to(text, Kind::Do, first, depth - 1)?;
+    let first = give(text, Kind::Range as u8, name.next, depth - 1)?;
+    let last = up_to(text, Kind::Do as u8, first, depth - 1)?;
     let body = statement_list(text, last, depth - 1)?;
-    expect(text, Kind::End, body)
+    past(text, Kind::End, body)
 }

@@ -7,7 +7,7 @@ ghost use Rattle.words.specs.Kinds.{code};
 ghost use Rattle.integers.specs.Integers.{num};
 ghost use Rattle.judging.specs.Judging.{sort_of};
 ghost use Rattle.judging.specs.Reading.{seen, seen_step};
-ghost use Rattle.readers.specs.Readers.{inner_of, part_of, bracket_of, index_of, mux_of, reg_of, inverted_of, factor_of, expression_of};
+ghost use Rattle.readers.specs.Readers.{inner_of, part_of, bracket_of, index_of, mux_of, reg_of, inverted_of, factor_of, term_of, expression_of};
 ghost use Rattle.readers.specs.Levels.{among, operand_of, turn_of, chain_of, level_of};
 
 use basics::refusal::{Reason, Refusal};
@@ -317,8 +317,26 @@ fn factor(
     }
 }
 
+// A term.
+// The functions of a level are laid into one another at each of the two levels, so that neither asks at every word which it is; this is where they meet.
+#[cycle(reading)]
+#[inline(never)]
+fn term(
+    scope: Scope,
+    room: &mut [u32],
+    count: &mut usize,
+    sort: Sort,
+    from: Cursor,
+    depth: usize,
+) -> Result<Read, Refusal>
+    ensures { seen result (room.new, count.new) ≡ term_of scope.entry.text.now scope.entry.names.now depth (sort_of sort) from.at (room.old, count.old) }
+{
+    operands(scope, room, count, Level::Product, sort, from, depth)
+}
+
 // What stands between the operators of a level.
 #[cycle(reading)]
+#[inline(always)]
 fn operand(
     scope: Scope,
     room: &mut [u32],
@@ -331,13 +349,14 @@ fn operand(
     ensures { seen result (room.new, count.new) ≡ operand_of scope.entry.text.now scope.entry.names.now depth level (sort_of sort) from.at (room.old, count.old) }
 {
     match level {
-        Level::Sum => operands(scope, room, count, Level::Product, sort, from, depth),
+        Level::Sum => term(scope, room, count, sort, from, depth),
         Level::Product => factor(scope, room, count, sort, from, depth),
     }
 }
 
 // Behind an operand: an operator and the next one, or the end of the chain.
 #[cycle(reading)]
+#[inline(always)]
 #[tactic(auto, using(std::proofs::lemmas::Grind::common_steps, crate::proofs::Links::word_gone, crate::proofs::Links::operator_real, crate::proofs::Links::operand_low), unfolding(grammar::specs::Grammar::turn))]
 fn turn(
     scope: Scope,
@@ -361,6 +380,7 @@ fn turn(
 
 // Behind a first operand: all turns of the chain.
 #[cycle(reading)]
+#[inline(always)]
 #[tactic(auto, using(std::proofs::lemmas::Grind::common_steps, crate::proofs::Links::chain_last))]
 fn chain(
     scope: Scope,
@@ -384,6 +404,7 @@ fn chain(
 
 // Operands with the operators of a level between them.
 #[cycle(reading)]
+#[inline(always)]
 #[tactic(auto, using(std::proofs::lemmas::Grind::common_steps, crate::proofs::Links::operand_past), unfolding(grammar::specs::Grammar::expression, grammar::specs::Grammar::term, grammar::specs::Grammar::level))]
 fn operands(
     scope: Scope,

@@ -28,6 +28,9 @@ decreases-turn l = (length l.scope.text.now - l.left.next.at) * 16
 abbrev pub decreases-chain : goal.decreases-chain
 decreases-chain l = (length l.scope.text.now - l.first.next.at) * 16 + 1
 
+abbrev pub decreases-term : goal.decreases-term
+decreases-term l = (length l.scope.text.now - l.from.at) * 16 + 3
+
 abbrev pub decreases-operand : goal.decreases-operand
 decreases-operand l = (length l.scope.text.now - l.from.at) * 16 + operand_rank l.level
 
