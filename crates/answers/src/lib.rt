@@ -48,12 +48,12 @@ pub fn read_full<R: Read>(from: &mut R, room: &mut [u8]) -> io::Result<usize>
     Ok(n)
 }
 
-// Takes what is still to be read, up to 8,192 bytes, and answers how many.
+// Takes what is still to be read, up to 65,536 bytes, and answers how many.
 fn more<R: Read>(from: &mut R) -> io::Result<usize>
-    ensures within { IfOk result (λ n. n ≤ 8192) }
+    ensures within { IfOk result (λ n. n ≤ 65536) }
     ensures retried { IfErr result (λ e. error_kind e ≢ ErrorKind.Interrupted) }
 {
-    let mut kept = [0u8; 8192];
+    let mut kept = [0u8; 65536];
     read_full(from, &mut kept)
 }
 
