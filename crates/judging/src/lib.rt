@@ -2,16 +2,16 @@
 // the count says how many are there.
 #![tactic(auto)]
 
-ghost use Rattle.std.specs.Prelude.{◌≡◌, Ok};
+ghost use Rattle.std.specs.Prelude.{◌≡◌, Ok, ℤ};
 ghost use Rattle.words.specs.Kinds.{code};
-ghost use Rattle.integers.specs.Integers.{num};
+ghost use Rattle.integers.specs.Integers.{num, combined, combined_by};
 ghost use Rattle.grammar.specs.Outcome.{built_at};
 ghost use Rattle.grammar.specs.Grammar.{is_sum, is_product, index_sort, part_sort};
 ghost use Rattle.judging.specs.Judging.{sort_of, judged, opening, meant, meaning_of, mark_of, literal_of, logic_of, plain_of, opened_of, element_of, operator_of};
 ghost use Rattle.judging.specs.Reading.{seen, done, dotted_of, pointed_of};
 
 use basics::refusal::{Reason, Refusal};
-use integers::Num;
+use integers::{Num, Operator};
 use words::{Cursor, Kind};
 
 // What a part is read for: only to be checked, a number, a signal, or a signal that is not counted, of which there are as many sorts as numbers from 3 on.
@@ -172,6 +172,7 @@ pub fn logic(sort: Sort, place: usize, value: u16) -> Result<Judged, Refusal>
 
 impl Scope<'_> {
     // What the name from start to end stands for.
+    #[inline(always)]
     #[tactic(auto, using(std::proofs::lemmas::Grind::common_steps), unfolding(crate::specs::Judging::meaning_of, names::specs::Names::number_of))]
     pub fn meaning(self, start: usize, end: usize) -> Option<Meaning>
         ensures { meant result ≡ meaning_of self.entry.text.now self.entry.names.now start end }
@@ -208,14 +209,32 @@ pub fn element(
     }
 }
 
-// An operator at a place, between two operands.
+// The operator on numbers that a word is.
+#[inline(always)]
+#[tactic(auto, using(std::proofs::lemmas::Grind::common_steps), unfolding(integers::specs::Integers::combined))]
+fn operator(kind: Kind) -> Option<Operator>
+    ensures { (a b : ℤ) → combined_by result a b ≡ combined (code kind) a b }
+{
+    match kind {
+        Kind::Plus => Some(Operator::Plus),
+        Kind::Minus => Some(Operator::Minus),
+        Kind::Star => Some(Operator::Times),
+        Kind::Div => Some(Operator::Divide),
+        Kind::Mod => Some(Operator::Modulo),
+        Kind::Caret => Some(Operator::Power),
+        _ => None,
+    }
+}
+
+// An operator at a place, between two operands. It is laid into each level of operators, where its kind is one of two or of four.
+#[inline(always)]
 #[tactic(auto, using(std::proofs::lemmas::Grind::common_steps), unfolding(crate::specs::Judging::operator_of))]
 pub fn operate(sort: Sort, kind: Kind, place: usize, a: Num, b: Num) -> Result<Judged, Refusal>
     ensures { judged result ≡ operator_of (sort_of sort) (code kind) place (num a) (num b) }
 {
     match (sort, kind) {
         (Sort::Checked, _) => Ok(Judged::Number(Num::Up(0))),
-        (Sort::Number, _) => match integers::combine(kind as u8, a, b) {
+        (Sort::Number, _) => match operator(kind).and_then(|o| o.on(a, b)) {
             Some(n) => Ok(Judged::Number(n)),
             None => Err(Refusal::new(Reason::Arithmetic, place)),
         },

@@ -1,7 +1,7 @@
 -- Symbols by one byte and by two: what was found says which form the word has. Assumes nothing.
-use Rattle.std.proofs.Common.{◌≡◌, ℕ, ◌+◌, refl, Bool, true, false, ◌||◌, List, get_or, eqb}
+use Rattle.std.proofs.Common.{◌≡◌, ℕ, ◌+◌, ◌≤◌, refl, Bool, true, false, ◌||◌, List, get_or, eqb}
 use Rattle.std.specs.Prelude.{Some, None}
-use borrow.Author.Tests.{eqb-true}
+use borrow.Author.Tests.{eqb-true, le-leb}
 use Rattle.basics.specs.Choice.{pick}
 use Rattle.words.specs.Bytes.{is_single, is_pair}
 use Rattle.words.specs.Taken.{Refused}
@@ -21,6 +21,10 @@ kinded_none m e = go (eqb m 0) refl e
     go : (b : Bool) → eqb m 0 ≡ b → None ≡ pick b None (Some m) → eqb m 0 ≡ true
     go true q e = q
     go false q e = absurd (cc)
+
+row_single : (b : ℕ) → 40 ≤ b → b ≤ 45 → is_single b ≡ true
+unfolding is_single
+row_single b h k = simp (le-leb 40 b h, le-leb b 45 k)
 
 -- two bytes that make a symbol
 pair_starts : (b a : ℕ) → eqb (pair_kind b a) 0 ≡ false → (is_single b ≡ false) × (is_pair b ≡ true)
@@ -57,6 +61,11 @@ module _ (s : List ℕ) (p : ℕ) where
       go true y e f = simp e
       go false true e f = simp (e, f, h)
       go false false e f = absurd (let z : true ≡ false = rw (e, f) at k in cc)
+
+  -- one of the six bytes that stand in a row
+  pub symbol_row : 40 ≤ get_or s p 0 → get_or s p 0 ≤ 45 → word (get_or s p 0) p 0 (p + 1) ≡ symbol_at s p
+  unfolding symbol_at
+  symbol_row h k = simp (row_single _ h k)
 
   pub symbol_other : eqb (single_of (get_or s p 0)) 0 ≡ true → pick (eqb (get_or s p 0) 39) (logic_at s p) (Refused 2 p) ≡ symbol_at s p
   unfolding symbol_at
