@@ -53,6 +53,7 @@ fn indexed(text: &[u8], start: usize, end: Cursor, depth: usize) -> Result<Curso
 }
 
 // The word of the kind that has a number.
+// Kept: the kind is a number, here and in `give`, since the clauses speak of every number; `past` takes a kind.
 #[tactic(auto, using(std::proofs::lemmas::Grind::common_steps), unfolding(grammar::specs::Grammar::closed))]
 pub fn expect(text: &[u8], kind: u8, from: Cursor) -> Result<Cursor, Refusal>
     ensures { seen_end result ≡ must text.now kind from.at tt }
