@@ -2,9 +2,9 @@
 // the count says how many are there.
 #![tactic(auto)]
 
-ghost use Rattle.std.specs.Prelude.{◌≡◌, Ok, ℤ};
+ghost use Rattle.std.specs.Prelude.{◌≡◌, Ok};
 ghost use Rattle.words.specs.Kinds.{code};
-ghost use Rattle.integers.specs.Integers.{num, combined, combined_by};
+ghost use Rattle.integers.specs.Integers.{num, answer, combined};
 ghost use Rattle.grammar.specs.Outcome.{built_at};
 ghost use Rattle.grammar.specs.Grammar.{is_sum, is_product, index_sort, part_sort};
 ghost use Rattle.judging.specs.Judging.{sort_of, judged, opening, meant, meaning_of, mark_of, literal_of, logic_of, plain_of, opened_of, element_of, operator_of};
@@ -209,19 +209,19 @@ pub fn element(
     }
 }
 
-// The operator on numbers that a word is.
+// The operator on numbers that a word is, on two numbers.
 #[inline(always)]
 #[tactic(auto, using(std::proofs::lemmas::Grind::common_steps), unfolding(integers::specs::Integers::combined))]
-fn operator(kind: Kind) -> Option<Operator>
-    ensures { (a b : ℤ) → combined_by result a b ≡ combined (code kind) a b }
+fn combined(kind: Kind, a: Num, b: Num) -> Option<Num>
+    ensures { answer result ≡ combined (code kind) (num a) (num b) }
 {
     match kind {
-        Kind::Plus => Some(Operator::Plus),
-        Kind::Minus => Some(Operator::Minus),
-        Kind::Star => Some(Operator::Times),
-        Kind::Div => Some(Operator::Divide),
-        Kind::Mod => Some(Operator::Modulo),
-        Kind::Caret => Some(Operator::Power),
+        Kind::Plus => Operator::Plus.on(a, b),
+        Kind::Minus => Operator::Minus.on(a, b),
+        Kind::Star => Operator::Times.on(a, b),
+        Kind::Div => Operator::Divide.on(a, b),
+        Kind::Mod => Operator::Modulo.on(a, b),
+        Kind::Caret => Operator::Power.on(a, b),
         _ => None,
     }
 }
@@ -234,7 +234,7 @@ pub fn operate(sort: Sort, kind: Kind, place: usize, a: Num, b: Num) -> Result<J
 {
     match (sort, kind) {
         (Sort::Checked, _) => Ok(Judged::Number(Num::Up(0))),
-        (Sort::Number, _) => match operator(kind).and_then(|o| o.on(a, b)) {
+        (Sort::Number, _) => match combined(kind, a, b) {
             Some(n) => Ok(Judged::Number(n)),
             None => Err(Refusal::new(Reason::Arithmetic, place)),
         },

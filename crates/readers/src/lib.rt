@@ -123,13 +123,18 @@ pub fn index(
     ensures { seen result (room.new, count.new) ≡ index_of scope.entry.text.now scope.entry.names.now depth (sort_of sort) start end.at (room.old, count.old) }
 {
     let word = end.next(scope.text)?;
-    match word.kind {
-        Kind::OpenSquare => bracket(
-            scope, room, count, sort, start, end.at, word.start, word.next, depth,
-        ),
-        Kind::Dot => scope.point(room, count, sort, start, end.at, word.start, word.next),
-        _ => judging::put(room, count, scope.plain(sort, start, end.at)?, start, end),
-    }
+    let verdict = match word.kind {
+        Kind::OpenSquare => {
+            return bracket(
+                scope, room, count, sort, start, end.at, word.start, word.next, depth,
+            );
+        }
+        Kind::Dot => {
+            return scope.point(room, count, sort, start, end.at, word.start, word.next);
+        }
+        _ => scope.plain(sort, start, end.at)?,
+    };
+    judging::put(room, count, verdict, start, end)
 }
 
 // MUX at a place, from past it.
@@ -283,38 +288,29 @@ fn factor(
 {
     let word = from.next(scope.text)?;
     let start = word.start;
-    match word.kind {
-        Kind::Number => judging::put(
-            room,
-            count,
-            judging::literal(sort, start, word.value)?,
-            start,
-            word.next,
-        ),
-        Kind::Large => Err(Refusal::new(Reason::Arithmetic, start)),
-        Kind::Logic => judging::put(
-            room,
-            count,
-            judging::logic(sort, start, word.value)?,
-            start,
-            word.next,
-        ),
-        Kind::Name => index(scope, room, count, sort, start, word.next, depth),
-        Kind::Open => part(
-            scope,
-            room,
-            count,
-            sort,
-            start,
-            Kind::Close,
-            word.next,
-            depth,
-        ),
-        Kind::Tilde => invert(scope, room, count, sort, start, word.next, depth),
-        Kind::Mux => mux(scope, room, count, sort, start, word.next, depth),
-        Kind::Reg => reg(scope, room, count, sort, start, word.next, depth),
-        _ => Err(Refusal::new(Reason::Grammar, start)),
-    }
+    let verdict = match word.kind {
+        Kind::Number => judging::literal(sort, start, word.value)?,
+        Kind::Large => return Err(Refusal::new(Reason::Arithmetic, start)),
+        Kind::Logic => judging::logic(sort, start, word.value)?,
+        Kind::Name => return index(scope, room, count, sort, start, word.next, depth),
+        Kind::Open => {
+            return part(
+                scope,
+                room,
+                count,
+                sort,
+                start,
+                Kind::Close,
+                word.next,
+                depth,
+            );
+        }
+        Kind::Tilde => return invert(scope, room, count, sort, start, word.next, depth),
+        Kind::Mux => return mux(scope, room, count, sort, start, word.next, depth),
+        Kind::Reg => return reg(scope, room, count, sort, start, word.next, depth),
+        _ => return Err(Refusal::new(Reason::Grammar, start)),
+    };
+    judging::put(room, count, verdict, start, word.next)
 }
 
 // A term.
