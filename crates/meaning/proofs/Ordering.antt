@@ -2,11 +2,11 @@
 use mathlib.Core.Path.{◌≡◌, refl, sym, ap, ap₂, ◌∙◌, subst}
 use mathlib.Core.Bool.{Bool, true, false}
 use mathlib.Core.List.{List, [], ◌∷◌, ◌++◌}
-use Prim.Native.Nat.{ℕ, suc, ◌+◌, ◌%◌, ◌≤◌, ◌<◌}
+use Prim.Native.Nat.{ℕ, suc, ◌+◌, ◌-◌, ◌*◌, ◌%◌, ◌≤◌, ◌<◌}
 use native.Mathlib.Numerals.{add-one}
 use native.Mathlib.Omega.{arith}
-use lib.ListN.{length, get_or, set, take, drop, length-set, drop_of_length-le}
-use lib.Seq.{drop-cons, take-suc, take-set-le, get_or-set_same}
+use lib.ListN.{length, get_or, set, take, drop, length-set, length-drop, drop_of_length-le}
+use lib.Seq.{drop-cons, take-suc, take-set-le, get_or-set_same, length-take-le, get_or-take, get_or-drop}
 use Rattle.basics.specs.Choice.{bit, pick}
 use Rattle.basics.specs.Below.{tally}
 use Rattle.basics.proofs.Folds.{tally_next, tally_le}
@@ -103,3 +103,17 @@ count_none f = refl
 pub bit_one : (x : ℕ) (b : Bool) → x ≡ bit b → x ≤ 1
 bit_one x true e = omega arith
 bit_one x false e = omega arith
+
+-- row i of a table, as a part of it
+pub row_length : (m : List ℕ) (i : ℕ) → length m ≡ 4096 → i < 64 → length (take (i * 64 + 64 - i * 64) (drop (i * 64) m)) ≡ 64
+row_length m i h l =
+    let n : i * 64 + 64 - i * 64 ≡ 64 = omega arith in
+    ap (λ (k : ℕ). length (take k (drop (i * 64) m))) n
+    ∙ length-take-le 64 (drop (i * 64) m) (simp length-drop (omega arith))
+
+pub row_at : (m : List ℕ) (i j : ℕ) → j < 64 → get_or (take (i * 64 + 64 - i * 64) (drop (i * 64) m)) j 0 ≡ get_or m (i * 64 + j) 0
+row_at m i j h =
+    let n : i * 64 + 64 - i * 64 ≡ 64 = omega arith in
+    ap (λ (k : ℕ). get_or (take k (drop (i * 64) m)) j 0) n
+    ∙ get_or-take 64 (drop (i * 64) m) j 0 h
+    ∙ get_or-drop (i * 64) m j 0

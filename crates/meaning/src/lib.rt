@@ -17,8 +17,8 @@ fn rank_of(m: &[u8], i: usize) -> u8
     ensures { result ≡ rank_in m.now i }
 {
     let mut n: u8 = 0;
-    for j in 0..64 {
-        n += basics::byte_of(trees::named(m, i * 64 + j));
+    for &b in &m[i * 64..i * 64 + 64] {
+        n += basics::byte_of(b == 1);
     }
     n
 }

@@ -123,7 +123,13 @@ pub fn is_remaining(parts: &[u32], i: usize) -> bool
 fn met(x: u8, y: u8, z: u8) -> u8
     ensures { result ≡ bit (on x || (on y && on z)) }
 {
-    basics::byte_of(x == 1 || (y == 1 && z == 1))
+    if x == 1 {
+        1
+    } else if y == 1 {
+        basics::byte_of(z == 1)
+    } else {
+        0
+    }
 }
 
 // One round: what is met by way of k is met.

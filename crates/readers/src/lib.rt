@@ -249,6 +249,7 @@ fn reg(
 
 // A ~ at a place, from past it: a factor within it, with one level fewer left.
 #[cycle(reading)]
+#[inline(always)]
 #[tactic(auto, using(std::proofs::lemmas::Grind::common_steps, crate::proofs::Links::negated_some, crate::proofs::Links::inner_none), unfolding(grammar::specs::Grammar::inverted))]
 fn invert(
     scope: Scope,
